@@ -1,0 +1,12 @@
+pub mod Bits
+pub mod Made
+pub mod Steps
+pub mod Fielding
+pub mod Sectoring
+pub mod Flagging
+pub mod Laying
+pub mod Giving
+pub mod Deciding
+pub mod Heading
+pub mod Wholly
+pub mod Midway
