@@ -11,7 +11,7 @@ use Rattle.std.proofs.shelf.Lists.{ext-getD, drop-take, drop-at, take-at, lengt
 use Rattle.std.proofs.shelf.Tests.{cases-eq, cases-lt}
 use Rattle.std.proofs.shelf.Bits.{div-add-mod', mod-below}
 use borrow.Author.Needs.{needs}
-use Rattle.image.specs.Sectors.{cut, sector-at, count-in, put, Shaped, Bytes}
+use Rattle.image.specs.Sectors.{cut, sector-at, count-in, put, Shaped, Bytes, Untouched}
 
 pub length-cut : (b : List ℕ) → length (cut b) ≡ count-in (length b)
 length-cut b = length-map-counting (sector-at b) 0 (count-in (length b))
@@ -92,3 +92,12 @@ module _ (b : List ℕ) (n : ℕ) (s : List ℕ) (fits : 512 * n + 512 ≤ lengt
   put-past k h =
       let e : k ≡ k + 0 = omega arith in
       ap (λ x. getD (put b n s) x 0) e ∙ sym (getD-drop k (put b n s) 0 0) ∙ ap (λ l. getD l 0 0) (past k h) ∙ getD-drop k b 0 0 ∙ ap (λ x. getD b x 0) (sym e)
+
+pub untouched-self : (s : List ℕ) → Untouched s s
+untouched-self s = (refl, refl)
+
+pub untouched-onward : (s t u : List ℕ) → Untouched s t → Untouched t u → Untouched s u
+untouched-onward s t u p q = (
+  q .0 ∙ p .0,
+  ap (λ n. drop (512 * count-in n) u) (sym (p .0)) ∙ q .1 ∙ ap (λ n. drop (512 * count-in n) t) (p .0) ∙ p .1,
+)

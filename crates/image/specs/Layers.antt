@@ -2,10 +2,11 @@
 use Prim.Native.Nat.{ℕ, zero, suc, _+_, _*_, _/_, _%_, _^_, _<_, _≤_}
 use mathlib.Core.List.{List, [], map}
 use mathlib.Core.Bool.{Bool, true, false, cond}
-use mathlib.Core.Path.{_≡_, ap, _∙_}
+use mathlib.Core.Path.{_≡_, refl, ap, _∙_}
 use lib.ListN.{length, getD}
 use lib.Dec.{eqb}
 use native.Mathlib.Omega.{arith}
+use native.Mathlib.Numerals.{add-one}
 use Rattle.std.specs.Iters.{counting}
 use Rattle.std.proofs.shelf.Counted.{length-map-counting, getD-map-counting}
 use Rattle.image.specs.Sectors.{Image, Sector, Shaped, Bytes, sector-at}
@@ -19,6 +20,23 @@ has mask k = eqb (mask / 2 ^ k % 2) 1
 unfoldable pub howMany : (ℕ → Bool) → ℕ → ℕ
 howMany test zero = 0
 howMany test (suc n) = howMany test n + cond (test n) 1 0
+
+pub howMany-none : (test : ℕ → Bool) → howMany test 0 ≡ 0
+unfolding howMany
+howMany-none test = refl
+
+pub howMany-more : (test : ℕ → Bool) (n : ℕ) → howMany test (n + 1) ≡ howMany test n + cond (test n) 1 0
+unfolding howMany
+howMany-more test n = ap (howMany test) (add-one n)
+
+pub howMany-le : (test : ℕ → Bool) (n : ℕ) → howMany test n ≤ n
+unfolding howMany
+howMany-le test zero = omega arith
+howMany-le test (suc n) = let h = howMany-le test n in let c : cond (test n) 1 0 ≤ 1 = one (test n) in omega arith
+  where
+    one : (b : Bool) → cond b 1 0 ≤ 1
+    one true = omega arith
+    one false = omega arith
 
 -- what sector k shows: the held one where there is one, else that of the image below
 abbrev pub showing : (mask : ℕ) (cells : List ℕ) (below : Image) → ℕ → Sector

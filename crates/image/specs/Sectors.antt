@@ -38,3 +38,7 @@ cut row = map (sector-at row) (counting 0 (count-in (length row)))
 -- a row with the sector s in place of its sector n
 abbrev pub put : List ℕ → ℕ → Sector → List ℕ
 put row n s = take (512 * n) row ++ (s ++ drop (512 * n + 512) row)
+
+-- The bytes of a row behind its last sector are never touched: t has as many bytes as s, and the same ones there.
+abbrev pub Untouched : (s t : List ℕ) → Type 0
+Untouched s t = (length t ≡ length s) × (drop (512 * count-in (length s)) t ≡ drop (512 * count-in (length s)) s)

@@ -1,11 +1,11 @@
 //! The store that stands on a row of bytes.
 ghost use mathlib.Core.Path.{_≡_, refl, _∙_};
 ghost use mathlib.Core.Bool.{cond};
-ghost use Prim.Native.Nat.{ℕ, _*_};
-ghost use lib.ListN.{length, set, drop};
+ghost use lib.ListN.{length, set};
 ghost use denote.Ref.{now as behind, name};
 ghost use Rattle.std.specs.Results.{isOk};
-ghost use Rattle.image.specs.Sectors.{cut, put, count-in};
+ghost use Rattle.image.specs.Sectors.{cut, put, Untouched};
+ghost use Rattle.image.specs.Cuts.{untouched-self, untouched-onward};
 ghost use Rattle.image.specs.Refusals.{access};
 use crate::MOST;
 use crate::SECTOR;
@@ -33,11 +33,12 @@ impl<'a> Flat<'a> {
 pub impl<'a> ImageStore for Flat<'a> as FlatImageStore {
     ghost sectors = { λ s. cut (behind (s .bytes)) };
 
-    ghost keeps = { λ s t. name (t .bytes) ≡ name (s .bytes) };
+    // The bytes are the same ones, and those behind the last sector are as they were.
+    ghost keeps = { λ s t. (name (t .bytes) ≡ name (s .bytes)) × Untouched (behind (s .bytes)) (behind (t .bytes)) };
 
-    ghost stays = { λ s. refl };
+    ghost stays = { λ s. (refl, untouched-self (behind (s .bytes))) };
 
-    ghost onward = { λ s t u p q. q ∙ p };
+    ghost onward = { λ s t u p q. (q .0 ∙ p .0, untouched-onward (behind (s .bytes)) (behind (t .bytes)) (behind (u .bytes)) (p .1) (q .1)) };
 
     fn count(&self) -> usize {
         let whole = row_length(self.bytes) / SECTOR;
@@ -55,14 +56,12 @@ pub impl<'a> ImageStore for Flat<'a> as FlatImageStore {
         Ok(())
     }
 
-    // Beyond the store's contract: the row is as it was but for the bytes of sector `n`, so the
-    // bytes behind the last sector are never touched.
+    // Beyond the store's contract: the row is as it was but for the bytes of sector `n`.
     fn write(&mut self, n: usize, buffer: &[u8]) -> Result<(), Refusal>
         ensures answer { λ r. ⌜ r ≡ access (length (now (buffer .entry))) n (length (cut (now (now (self .entry) .bytes)))) ⌝ }
         ensures after { λ r. ⌜ cut (now (now (self .exit) .bytes)) ≡ cond (isOk r) (set (cut (now (now (self .entry) .bytes))) n (now (buffer .entry))) (cut (now (now (self .entry) .bytes))) ⌝ }
-        ensures kept { λ _. ⌜ name (now (self .exit) .bytes) ≡ name (now (self .entry) .bytes) ⌝ }
+        ensures kept { λ _. ⌜ (name (now (self .exit) .bytes) ≡ name (now (self .entry) .bytes)) × Untouched (now (now (self .entry) .bytes)) (now (now (self .exit) .bytes)) ⌝ }
         ensures row { λ r. ⌜ now (now (self .exit) .bytes) ≡ cond (isOk r) (put (now (now (self .entry) .bytes)) n (now (buffer .entry))) (now (now (self .entry) .bytes)) ⌝ }
-        ensures behind { λ _. ⌜ drop (512 * count-in (length (now (now (self .entry) .bytes)))) (now (now (self .exit) .bytes)) ≡ drop (512 * count-in (length (now (now (self .entry) .bytes)))) (now (now (self .entry) .bytes)) ⌝ }
     {
         if buffer.len() != SECTOR {
             return Err(Refusal::BufferLength);

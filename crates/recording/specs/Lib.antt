@@ -6,3 +6,4 @@ pub mod Entries
 pub mod Refusals
 pub mod Reading
 pub mod Recorded
+pub mod Writes

@@ -5,7 +5,7 @@ use native.Mathlib.Omega.{arith}
 use borrow.Author.Needs.{needs}
 use Rattle.image.proofs.flat.FlatImageStore.write.Needs as need
 use Rattle.image.specs.Sectors.{count-in, cut}
-use Rattle.image.specs.Cuts.{length-cut, within, cut-put, past}
+use Rattle.image.specs.Cuts.{length-cut, within, cut-put, length-put, past}
 use Rattle.image.specs.Access.{access-ok}
 
 pub put-sector-requires : need.put-sector-requires
@@ -24,7 +24,6 @@ returns c =
     record {
       answer = access-ok _ _ _ (c .if-buffer-ne-SECTOR .left) (rw length-cut h);
       after = ap cut (c .put-sector .ensures) ∙ cut-put b n (c .args .buffer .now) w (c .if-buffer-ne-SECTOR .left) h;
-      kept = refl;
+      kept = (refl, (ap length (c .put-sector .ensures) ∙ length-put b n (c .args .buffer .now) w (c .if-buffer-ne-SECTOR .left), ap (drop (512 * count-in (length b))) (c .put-sector .ensures) ∙ past b n (c .args .buffer .now) w (c .if-buffer-ne-SECTOR .left) (512 * count-in (length b)) (omega arith)));
       row = c .put-sector .ensures;
-      behind = ap (drop (512 * count-in (length b))) (c .put-sector .ensures) ∙ past b n (c .args .buffer .now) w (c .if-buffer-ne-SECTOR .left) (512 * count-in (length b)) (omega arith);
     }

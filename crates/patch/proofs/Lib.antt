@@ -1,0 +1,2 @@
+pub mod Patching
+pub mod Copying
