@@ -4,7 +4,7 @@ ghost use mathlib.Core.Bool.{cond};
 ghost use lib.ListN.{length, set};
 ghost use denote.Ref.{now as behind, name};
 ghost use Rattle.std.specs.Results.{isOk};
-ghost use Rattle.image.specs.Sectors.{cut, put, Untouched};
+ghost use Rattle.image.specs.Sectors.{cut, put, count-in, Untouched};
 ghost use Rattle.image.specs.Cuts.{untouched-self, untouched-onward};
 ghost use Rattle.image.specs.Refusals.{access};
 use crate::MOST;
@@ -30,6 +30,13 @@ impl<'a> Flat<'a> {
     }
 }
 
+/// How many sectors count in so many bytes.
+fn sectors_in(size: usize) -> usize
+    ensures { λ r. ⌜ r ≡ count-in size ⌝ }
+{
+    (size / SECTOR).min(MOST)
+}
+
 pub impl<'a> ImageStore for Flat<'a> as FlatImageStore {
     ghost sectors = { λ s. cut (behind (s .bytes)) };
 
@@ -41,8 +48,7 @@ pub impl<'a> ImageStore for Flat<'a> as FlatImageStore {
     ghost onward = { λ s t u p q. (q .0 ∙ p .0, untouched-onward (behind (s .bytes)) (behind (t .bytes)) (behind (u .bytes)) (p .1) (q .1)) };
 
     fn count(&self) -> usize {
-        let whole = row_length(self.bytes) / SECTOR;
-        whole.min(MOST)
+        sectors_in(row_length(self.bytes))
     }
 
     fn read(&self, n: usize, buffer: &mut [u8]) -> Result<(), Refusal> {

@@ -4,7 +4,7 @@ ghost use mathlib.Core.Bool.{cond};
 ghost use Prim.Native.Nat.{ℕ, _+_, _^_, _<_, _≤_};
 ghost use lib.ListN.{length};
 ghost use Rattle.recording.specs.Heads.{headFaulty};
-ghost use Rattle.recording.specs.Reading.{ahead, Opening, HeaderFinding, Finding, FindingLaid, Heading, Stepping, Laid, itemSeen, itemMade, LiesFrom};
+ghost use Rattle.recording.specs.Reading.{ahead, nextNumber, Opening, HeaderFinding, Finding, FindingLaid, Heading, Stepping, Laid, itemSeen, itemMade, LiesFrom};
 use crate::entry::Entry;
 use crate::entry::Found;
 use crate::entry::Header;
@@ -136,21 +136,32 @@ impl<'a> Reader<'a> {
     pub fn place(&self) -> usize
         ensures { λ r. ⌜ r ≡ now (self .entry) .place ⌝ }
     {
-        self.place
+        let Reader { place, .. } = self;
+        *place
     }
 
     /// How many entries the head tells.
     pub fn total(&self) -> u64
         ensures { λ r. ⌜ r ≡ now (self .entry) .total ⌝ }
     {
-        self.total
+        let Reader { total, .. } = self;
+        *total
     }
 
     /// How many entries are left.
     pub fn left(&self) -> u64
         ensures { λ r. ⌜ r ≡ now (self .entry) .left ⌝ }
     {
-        self.left
+        let Reader { left, .. } = self;
+        *left
+    }
+
+    /// The number of the next entry.
+    fn next_number(&self) -> u64
+        requires { ⌜ 0 < now self .left ⌝ }
+        ensures { λ r. ⌜ r ≡ nextNumber (now (self .entry)) ⌝ }
+    {
+        self.total.saturating_sub(self.left) + 1
     }
 
     /// What is left of the recording.
@@ -175,8 +186,7 @@ impl<'a> Reader<'a> {
             }
             return Ok(None);
         }
-        let number = self.total.saturating_sub(self.left) + 1;
-        let header = header_at(rest, number)?;
+        let header = header_at(rest, self.next_number())?;
         Ok(Some(header))
     }
 
@@ -185,15 +195,14 @@ impl<'a> Reader<'a> {
         ensures step { λ r. ⌜ Stepping (now (self .entry)) (now (self .exit)) r ⌝ }
         ensures laid { λ r. ⌜ Laid (now (self .entry)) (now (self .exit)) r ⌝ }
     {
-        let rest = self.rest();
+        let ahead = self.rest();
         if self.left == 0 {
-            if rest.len() > 0 {
+            if ahead.len() > 0 {
                 return Err(Refusal::Trailing);
             }
             return Ok(None);
         }
-        let number = self.total.saturating_sub(self.left) + 1;
-        let found = entry_at(rest, self.place, number)?;
+        let found = entry_at(ahead, self.place, self.next_number())?;
         self.place += found.size;
         self.left -= 1;
         Ok(Some(found.entry))

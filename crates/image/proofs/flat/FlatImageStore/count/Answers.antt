@@ -8,5 +8,5 @@ pub returns : need.returns
 returns c = record {
   number = search (needs, length-cut);
   few = search needs;
-  shaped = cut-shaped _ (c .row-length-whole .ensures .bytes);
+  shaped = cut-shaped _ (c .row-length .ensures .bytes);
 }
