@@ -1,0 +1,4 @@
+pub mod Fetching
+pub mod Heading
+pub mod Laying
+pub mod Telling

@@ -1,0 +1,9 @@
+pub mod Sectors
+pub mod Words
+pub mod Least
+pub mod Outcomes
+pub mod Heads
+pub mod Headed
+pub mod Trees
+pub mod Told
+pub mod Writing

@@ -1,0 +1,4 @@
+pub mod Lemmas
+pub mod Hexes
+pub mod Texts
+pub mod Unique
