@@ -1,2 +1,3 @@
 pub mod Patching
 pub mod Copying
+pub mod Replaying

@@ -89,6 +89,14 @@ fn is_outside(first: u64, sectors: u64, count: u64) -> bool
     sectors > 0 && (first > count || sectors > count - first)
 }
 
+/// Whether an entry touches a sector outside an image of `count`.
+pub fn lies_outside(item: &Entry, count: u64) -> bool
+    ensures { λ r. ⌜ r ≡ outside (itemSeen (now (item .entry))) count ⌝ }
+{
+    let (first, sectors) = extent(item);
+    is_outside(first, sectors, count)
+}
+
 /// Gives each sector that the entry writes its new content, and changes no other. An entry that
 /// touches a sector outside the image is declined, and then no sector changes.
 pub fn apply_entry<S: ImageStore>(store: &mut S, item: &Entry) -> Result<(), Outside>

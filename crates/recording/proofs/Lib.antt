@@ -9,4 +9,5 @@ pub mod Giving
 pub mod Deciding
 pub mod Heading
 pub mod Wholly
+pub mod Remaining
 pub mod Midway

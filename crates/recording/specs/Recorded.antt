@@ -12,11 +12,12 @@ use Rattle.std.specs.declared.option.Option.the-variants.{Some, None}
 use Rattle.image.specs.Sectors.{Bytes}
 use Rattle.recording.specs.declared.refusal.Refusal.{Refusal}
 use Rattle.recording.specs.declared.refusal.Refusal.the-variants.{Head, TooMany}
+use Rattle.recording.specs.declared.entry.Reader.{Reader}
 use Rattle.recording.specs.Items.{Item}
 use Rattle.recording.specs.Layout.{layout, Within}
 use Rattle.recording.specs.Heads.{headFaulty, countIn}
 use Rattle.recording.specs.Entries.{itemIn, restOf}
-use Rattle.recording.specs.Reading.{entryFault, endFault, openFault}
+use Rattle.recording.specs.Reading.{entryFault, endFault, openFault, ahead, nextNumber}
 
 -- an answer, unless there is a reason to decline
 abbrev pub unless : {A : Type 0} → Option Refusal → Result A Refusal → Result A Refusal
@@ -36,6 +37,15 @@ recordedFrom (suc n) k x = unless (entryFault k x) (prepend (itemIn x) (recorded
 -- the entries of the recording s
 unfoldable pub recorded : List ℕ → Result (List Item) Refusal
 recorded s = unless (openFault s) (recordedFrom (countIn s) 1 (drop 512 s))
+
+-- what is left before a reader, read to its end
+abbrev pub remaining : Reader → Result (List Item) Refusal
+remaining r = recordedFrom (r .left) (nextNumber r) (ahead r)
+
+-- the entries of an answer that has some
+abbrev pub itemsOf : Result (List Item) Refusal → List Item
+itemsOf (Ok es) = es
+itemsOf (Err f) = []
 
 -- how many they are
 abbrev pub counted : Result (List Item) Refusal → Result ℕ Refusal

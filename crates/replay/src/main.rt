@@ -15,13 +15,13 @@ use image::FlatImageStore;
 use image::ImageStore;
 use image::Overlay;
 use image::OverlayImageStore;
-use patch::apply_entry;
+use patch::Declined;
+use patch::DeclinedDisplay;
 use patch::changed_sectors;
 use patch::copy_image;
+use patch::replay_recording;
 use recording::Entry;
 use recording::Reader;
-use recording::RefusalDisplay;
-use recording::validate;
 use show::show_entry;
 
 const HELP: &str = "replay RECORDING BASE OUT
@@ -74,47 +74,8 @@ fn add_entry(mut all: Tally, entry: &Entry) -> Tally {
     all
 }
 
-/// Whether the recording is one, with the reason said where it is not.
-fn is_recording(rt: &LibcRuntime, bytes: &[u8]) -> Result<bool, Failed> {
-    match validate(bytes) {
-        Ok(_) => Ok(true),
-        Err(refusal) => {
-            let (number, place) = refusal.code();
-            eprintln!(
-                rt,
-                "replay: the recording is declined by {number}, place {place}: {refusal}"
-            )?;
-            Ok(false)
-        }
-    }
-}
-
-/// Applies one entry, with the reason said where it is declined.
-fn apply_one<S: ImageStore>(
-    rt: &LibcRuntime,
-    store: &mut S,
-    number: u64,
-    entry: &Entry,
-) -> Result<(), Failed> {
-    match apply_entry(store, entry) {
-        Ok(()) => Ok(()),
-        Err(_) => {
-            let count = store.count();
-            eprintln!(
-                rt,
-                "replay: the recording is declined by 9, place {number}: entry {number} touches a sector outside the image, which has {count}"
-            )?;
-            Err(Failed::Said)
-        }
-    }
-}
-
-/// Prints and applies every entry.
-fn apply_all<S: ImageStore>(
-    rt: &LibcRuntime,
-    store: &mut S,
-    bytes: &[u8],
-) -> Result<Tally, Failed> {
+/// Prints every entry, and counts them by kind.
+fn show_all(rt: &LibcRuntime, bytes: &[u8]) -> Result<Tally, Failed> {
     let mut all = Tally {
         writes: 0,
         discards: 0,
@@ -124,29 +85,38 @@ fn apply_all<S: ImageStore>(
     let Ok(mut reader) = Reader::open(bytes) else {
         return Err(Failed::Said);
     };
-    let mut number = 0u64;
-    for _ in 0..256 {
+    for i in 0..reader.total() {
         let Ok(Some(entry)) = reader.next() else {
-            break;
+            return Err(Failed::Said);
         };
-        number = number.saturating_add(1);
-        show_entry(rt, number, &entry)?;
-        apply_one(rt, store, number, &entry)?;
+        show_entry(rt, i.saturating_add(1), &entry)?;
         all = add_entry(all, &entry);
     }
     Ok(all)
 }
 
-/// Replays a recording over a base; gives the bytes of the image afterwards.
+/// Says why the recording is not replayed.
+fn say_declined(rt: &LibcRuntime, declined: Declined) -> Result<(), Failed> {
+    let (number, place) = declined.code();
+    eprintln!(
+        rt,
+        "replay: the recording is declined by {number}, place {place}: {declined}"
+    )?;
+    Err(Failed::Said)
+}
+
+/// Replays a recording over a base, and makes `out` the image afterwards.
 fn replay(rt: &LibcRuntime, bytes: &[u8], base: &mut [u8], out: &mut [u8]) -> Result<(), Failed> {
     let mut over = Overlay::over(Flat::new(base));
-    let all = apply_all(rt, &mut over, bytes)?;
+    if let Err(declined) = replay_recording(&mut over, bytes) {
+        return say_declined(rt, declined);
+    }
     let Tally {
         writes,
         discards,
         flushes,
         marks,
-    } = all;
+    } = show_all(rt, bytes)?;
     println!(
         rt,
         "{writes} writes, {discards} discards, {flushes} flushes without data, {marks} marks"
@@ -167,9 +137,6 @@ fn replay_files(rt: &LibcRuntime, recording: &str, base: &str, out: &str) -> Res
     let bytes = read_file(rt, "replay", "recording", recording)?;
     let mut held = read_file(rt, "replay", "base image", base)?;
     let mut image = held.clone()?;
-    if !is_recording(rt, bytes.as_slice())? {
-        return Err(Failed::Said);
-    }
     replay(
         rt,
         bytes.as_slice(),

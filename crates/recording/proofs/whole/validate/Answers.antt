@@ -9,7 +9,8 @@ use Rattle.recording.specs.declared.entry.Entry.{Entry}
 use Rattle.recording.specs.Reading.{Stepping}
 use Rattle.recording.specs.Recorded.{counted}
 use Rattle.recording.proofs.Wholly.{laws}
-use Rattle.recording.proofs.Midway.{started, stepped, declined, finished, unopened, answered}
+use Rattle.recording.proofs.Midway.{started, stepped, declined, finished, answered}
+use Rattle.recording.proofs.Remaining.{unopened}
 use Rattle.recording.proofs.whole.validate.Needs as need
 
 pub returns-in-Break-reader : need.returns-in-Break-reader
