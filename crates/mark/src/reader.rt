@@ -1,6 +1,10 @@
 //! Reads the text of a mark.
+ghost use mathlib.Core.Path.{_≡_};
 ghost use mathlib.Core.List.{_∷_};
 ghost use Prim.Native.Nat.{_<_};
+ghost use Rattle.std.specs.Options.{okOr};
+ghost use Rattle.mark.specs.declared.refusal.Refusal.the-variants.{NoMark};
+ghost use Rattle.mark.specs.Found.{markOf, TheMark};
 ghost use Rattle.mark.specs.Marks.{Finds, Spaced, Lone, ReadAs, Only, AtMostOne};
 use crate::hex;
 use crate::mark::Mark;
@@ -127,6 +131,7 @@ fn letter(first: u8, body: &[u8]) -> Option<Mark>
 pub fn read_mark(text: &[u8]) -> Result<Mark, Refusal>
     ensures spelled { λ r. ⌜ ReadAs (now (text .entry)) r ⌝ }
     ensures only { λ r. ⌜ Only (now (text .entry)) r ⌝ }
+    ensures value { λ r. ⌜ r ≡ okOr (markOf (now (text .entry))) NoMark ⌝ }
 {
     let [first, body @ ..] = text else {
         return Err(Refusal::NoMark);
@@ -137,9 +142,10 @@ pub fn read_mark(text: &[u8]) -> Result<Mark, Refusal>
     }
 }
 
-/// A text spells at most one mark.
+/// A text spells at most one mark, and `markOf` is that one.
 pub fn at_most_one() -> u8
-    ensures { λ _. ⌜ AtMostOne ⌝ }
+    ensures one { λ _. ⌜ AtMostOne ⌝ }
+    ensures found { λ _. ⌜ TheMark ⌝ }
 {
     0
 }
