@@ -1,0 +1,11 @@
+pub mod Members
+pub mod Deciding
+pub mod Durability
+pub mod Numbering
+pub mod Ranking
+pub mod Choosing
+pub mod Walking
+pub mod Repeating
+pub mod Stating
+pub mod Effecting
+pub mod Noding

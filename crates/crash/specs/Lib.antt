@@ -1,0 +1,11 @@
+pub mod Effects
+pub mod Rules
+pub mod Lists
+pub mod States
+pub mod Ranks
+pub mod Walk
+pub mod Nodes
+pub mod EffectLaws
+pub mod Laws
+pub mod NodeLaws
+pub mod Examples
