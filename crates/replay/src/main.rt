@@ -1,7 +1,5 @@
 //! Replays a recording onto an image: prints each entry, applies them all, and writes the image
 //! that they leave to another file. The base image is never written.
-mod show;
-
 use console::Failed;
 use console::FailedFromAlloc;
 use console::FailedFromIo;
@@ -22,7 +20,7 @@ use patch::copy_image;
 use patch::replay_recording;
 use recording::Entry;
 use recording::Reader;
-use show::show_entry;
+use words::entry_words;
 
 const HELP: &str = "replay RECORDING BASE OUT
 
@@ -89,7 +87,9 @@ fn show_all(rt: &LibcRuntime, bytes: &[u8]) -> Result<Tally, Failed> {
         let Ok(Some(entry)) = reader.next() else {
             return Err(Failed::Said);
         };
-        show_entry(rt, i.saturating_add(1), &entry)?;
+        let number = i.saturating_add(1);
+        let text = entry_words(rt.alloc(), &entry)?;
+        println!(rt, "{number}: {text}")?;
         all = add_entry(all, &entry);
     }
     Ok(all)

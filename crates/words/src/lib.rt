@@ -1,7 +1,4 @@
-//! An entry in words.
-use console::Failed;
-use console::FailedFromAlloc;
-use console::FailedFromIo;
+//! Entries of a recording in words, for the programs.
 use console::printable;
 use recording::Entry;
 use std::alloc::AllocError;
@@ -40,9 +37,8 @@ fn sector_words(heap: Global, first: u64, sectors: u64) -> Result<String, AllocE
     format!(heap, "sectors {first} to {last}")
 }
 
-/// Prints an entry on a line of its own.
-pub fn show_entry(rt: &LibcRuntime, number: u64, entry: &Entry) -> Result<(), Failed> {
-    let heap = rt.alloc();
+/// An entry in words: its kind, its sectors and its flags, or the text of a mark.
+pub fn entry_words(heap: Global, entry: &Entry) -> Result<String, AllocError> {
     match entry {
         Entry::Write {
             sector,
@@ -54,7 +50,7 @@ pub fn show_entry(rt: &LibcRuntime, number: u64, entry: &Entry) -> Result<(), Fa
         } => {
             let sectors = sector_words(heap, *sector, (content.len() / 512) as u64)?;
             let flags = flag_words(heap, *flush, *fua, false, *metadata)?;
-            println!(rt, "{number}: write {sectors}{flags}")?;
+            format!(heap, "write {sectors}{flags}")
         }
         Entry::Discard {
             sector,
@@ -64,7 +60,7 @@ pub fn show_entry(rt: &LibcRuntime, number: u64, entry: &Entry) -> Result<(), Fa
         } => {
             let sectors = sector_words(heap, *sector, *sectors)?;
             let flags = flag_words(heap, *flush, false, false, *metadata)?;
-            println!(rt, "{number}: discard {sectors}{flags}")?;
+            format!(heap, "discard {sectors}{flags}")
         }
         Entry::Flush {
             sector,
@@ -74,15 +70,11 @@ pub fn show_entry(rt: &LibcRuntime, number: u64, entry: &Entry) -> Result<(), Fa
         } => {
             let sector = *sector;
             let flags = flag_words(heap, false, *fua, *discard, *metadata)?;
-            println!(
-                rt,
-                "{number}: flush without data, names sector {sector}{flags}"
-            )?;
+            format!(heap, "flush without data, names sector {sector}{flags}")
         }
         Entry::Mark { text, place: _ } => {
             let text = printable(heap, text)?;
-            println!(rt, "{number}: mark {text}")?;
+            format!(heap, "mark {text}")
         }
     }
-    Ok(())
 }

@@ -1,0 +1,5 @@
+pub mod Refusals
+pub mod Lists
+pub mod Turns
+pub mod Gathering
+pub mod Noding
