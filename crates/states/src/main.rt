@@ -10,12 +10,11 @@ use console::finish;
 use console::read_file;
 use image::Flat;
 use image::FlatImageStore;
-use points::check_points;
-use report::report_points;
 use loading::RefusalDisplay as LoadDisplay;
 use loading::read_trace;
+use points::check_points;
+use report::report_points;
 use trace::Trace;
-
 
 const HELP: &str = "states RECORDING BASE
 
