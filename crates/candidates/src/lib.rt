@@ -1,5 +1,7 @@
 //! The candidates of sectors and nodes at a crash point, how many states a point has, and the way
 //! from one state to the next.
+#![tactic(auto)]
+
 mod distinct;
 mod eight;
 mod listing;

@@ -1,4 +1,6 @@
 //! What the programs share: arguments, files with messages that name them, and printable text.
+#![tactic(auto)]
+
 use std::alloc::{AllocError, AllocFailed, Global};
 use std::{env, fs, io};
 

@@ -1,5 +1,7 @@
 //! What a crash may leave: the crash states of a recording and the trees admitted at a point, as
 //! definitions in specs/, and what is proved of them.
+#![tactic(auto)]
+
 ghost use Rattle.crash.specs.Laws.{DurableLaws, NumbersAreTheRules, CandidatesAreTheRules, StatesArePermitted, RanksAreLexicographic, ListIsTheStates, HistoryGivesTheCandidates};
 ghost use Rattle.crash.specs.NodeLaws.{NodesAreTheRules};
 ghost use Rattle.crash.specs.EffectLaws.{EffectsAreTheEntries};

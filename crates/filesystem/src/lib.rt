@@ -1,5 +1,7 @@
 //! File systems on an image of sectors: what one is, and what all share: words, the head, and
 //! the tree that node words mean.
+#![tactic(auto)]
+
 mod fault;
 mod head;
 mod reading;

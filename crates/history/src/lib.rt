@@ -1,4 +1,6 @@
 //! Histories: the candidates of one key, in order, in 8 cells that the caller lends.
+#![tactic(auto)]
+
 mod cells;
 mod refusal;
 mod values;

@@ -1,5 +1,7 @@
 //! Disk images as stores of 512-byte sectors: what a store is, the store over a row of bytes,
 //! and the overlay that keeps its writes to itself.
+#![tactic(auto)]
+
 mod bits;
 mod flat;
 mod overlay;

@@ -38,9 +38,9 @@ pub trait ImageStore {
 
 /// Copies sector `from` to sector `to`.
 pub fn copy_sector<S: ImageStore>(store: &mut S, from: usize, to: usize) -> Result<(), Refusal>
-    ensures answer { result ≡ access 512 (max from to) (length (sectors store.old)) }
-    ensures after { sectors store.new ≡ (if is_ok result then slice_set (sectors store.old) to (slice_index_or (sectors store.old) from []) else sectors store.old) }
-    ensures kept { keeps store.old store.new }
+    ensures answer { result ≡ access 512 (max from to) (length (S.sectors store.old)) }
+    ensures after { S.sectors store.new ≡ (if is_ok result then slice_set (S.sectors store.old) to (slice_index_or (S.sectors store.old) from []) else S.sectors store.old) }
+    ensures kept { S.keeps store.old store.new }
 {
     let mut buffer = [0u8; SECTOR];
     store.read(from, &mut buffer)?;

@@ -1,4 +1,6 @@
 //! The journalled file system: a recovery carries out the transaction that stands.
+#![tactic(auto)]
+
 mod descriptor;
 mod replay;
 mod sums;

@@ -1,4 +1,6 @@
 //! Whether a recovered tree is admitted at a crash point.
+#![tactic(auto)]
+
 mod fill;
 mod judge;
 mod judgement;

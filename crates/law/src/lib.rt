@@ -1,5 +1,7 @@
 //! The law of a run: what holds of every sequence of calls, whatever they are and however answered, over any subject
 //! (a base image, a recovery, and what each recording means).
+#![tactic(auto)]
+
 ghost use Rattle.law.specs.Law.{EveryCallIsAnswered, EveryHistoryIsLawful, SomeRunIsSafe, TheLawDecides};
 
 /// Whatever calls are made of a run, its history keeps the law.

@@ -1,4 +1,6 @@
 //! A recording's bytes read into memory, with every check that comes before the crash points.
+#![tactic(auto)]
+
 mod asking;
 mod push;
 mod reading;

@@ -1,4 +1,6 @@
 //! The texts of marks: what a mark spells, and the reader of it.
+#![tactic(auto)]
+
 mod hex;
 mod mark;
 mod numbers;

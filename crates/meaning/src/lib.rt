@@ -1,4 +1,6 @@
 //! What load makes of a recording's bytes over a base and a file system: a refusal, or the recording's meaning.
+#![tactic(auto)]
+
 ghost use Rattle.meaning.specs.Subjects.{MeaningIsTheRules};
 
 /// What load takes means what the rules of crash states and of marks say.

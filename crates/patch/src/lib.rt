@@ -1,4 +1,6 @@
 //! Entries and whole recordings applied to image stores; images compared and copied.
+#![tactic(auto)]
+
 mod apply;
 mod compare;
 mod declined;

@@ -1,4 +1,6 @@
 //! The plain file system: no journal, and a recovery that writes nothing.
+#![tactic(auto)]
+
 ghost use Rattle.plain.specs.Examples.{Reads, NoParent, PastEnd, TooFew, Miscounted};
 ghost use Rattle.plain.specs.Plain.{plain_outcome, HeadFault, ReadTree};
 ghost use Rattle.std.proofs.Common.{rules};

@@ -1,4 +1,6 @@
 //! The states of a crash point: how many there are, and the way from one to the next.
+#![tactic(auto)]
+
 mod count;
 mod places;
 

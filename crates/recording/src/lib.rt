@@ -1,5 +1,7 @@
 //! Recordings of block writes in the layout of Linux dm-log-writes, version 1: the layout, the
 //! reader that goes through one entry by entry, and the entries.
+#![tactic(auto)]
+
 mod entry;
 mod fields;
 mod form;

@@ -1,4 +1,6 @@
 //! Recordings at the edges of the rules. There is nothing here but tests.
+#![tactic(auto)]
+
 
 #[cfg(test)]
 mod tables {

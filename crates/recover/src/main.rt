@@ -1,5 +1,7 @@
 //! Recovers an image: prints the tree that it holds, or the fault, and writes the image afterwards
 //! to another file. The image itself is never written.
+#![tactic(auto)]
+
 mod show;
 
 use console::{Failed, arguments, finish, read_file, write_beside};

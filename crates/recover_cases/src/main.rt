@@ -1,4 +1,6 @@
 //! Recovers images of which is known what comes of them, and compares.
+#![tactic(auto)]
+
 use console::{Failed, arguments, finish, read_file};
 use filesystem::{Fault, FileSystem};
 use image::{Flat, Overlay};

@@ -1,4 +1,6 @@
 //! An image recovered apart from the store that holds it, and the lines that say what came of it.
+#![tactic(auto)]
+
 mod apart;
 mod lines;
 

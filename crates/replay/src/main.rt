@@ -1,5 +1,7 @@
 //! Replays a recording onto an image: prints each entry, applies them all, and writes the image
 //! that they leave to another file. The base image is never written.
+#![tactic(auto)]
+
 use console::{Failed, arguments, finish, read_file, write_beside};
 use image::{Flat, ImageStore, Overlay};
 use patch::{Declined, changed_sectors, copy_image, replay_recording};

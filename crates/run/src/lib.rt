@@ -1,5 +1,7 @@
 //! A run over the crash states of a recording: it gives each state, recovers and judges it, and reports. Every call is
 //! matched with the run's condition in one place, and whatever calls are made, the run's history keeps the law.
+#![tactic(auto)]
+
 mod call;
 mod calls;
 mod moving;

@@ -1,5 +1,7 @@
 //! Prints, for each crash point of a recording, the entry before it, how many states a crash may
 //! leave there, and the candidates of each sector that has more than one.
+#![tactic(auto)]
+
 mod report;
 
 use console::{Failed, arguments, finish, read_file};

@@ -1,4 +1,6 @@
 //! A recording taken: its bytes read into memory, and its crash points within the limits.
+#![tactic(auto)]
+
 mod refusal;
 mod take;
 

@@ -1,4 +1,6 @@
 //! Recordings in memory: what each entry does, with the data sectors that entries write.
+#![tactic(auto)]
+
 mod contents;
 mod steps;
 

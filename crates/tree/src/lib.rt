@@ -1,4 +1,6 @@
 //! A tree of 16 nodes, built node by node, and the print of a file's bytes.
+#![tactic(auto)]
+
 mod build;
 mod builder;
 mod node;

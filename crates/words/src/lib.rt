@@ -1,4 +1,6 @@
 //! Entries of a recording in words, for the programs.
+#![tactic(auto)]
+
 use console::printable;
 use recording::Entry;
 use std::alloc::{AllocError, Global};

@@ -2,4 +2,4 @@ use Rattle.std.proofs.Common.{arith}
 use Rattle.image.proofs.rows.row_length.Goals as goal
 
 pub returns : goal.returns
-returns c = record { number = c.long.ensures; bytes = λ i. omega (arith, c.type-inv.row i) }
+returns c = record { number = c.long.ensures; bytes = λ i. omega (arith, c.ok.row i) }

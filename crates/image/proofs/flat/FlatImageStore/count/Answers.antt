@@ -6,5 +6,5 @@ pub returns : goal.returns
 returns c = record {
   number = search (rules, length_cut);
   few = search rules;
-  shaped = cut_shaped _ c.row-length.ensures.bytes;
+  shaped = cut_shaped _ c.row_length.ensures.bytes;
 }

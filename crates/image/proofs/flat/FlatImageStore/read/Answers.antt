@@ -17,5 +17,5 @@ returns c =
     let h : c.args.n < count_in (length b) = omega (arith, length_cut b) in
     record {
       answer = access_ok _ _ _ c.if-buffer-ne-SECTOR.false (rw length_cut h);
-      after = c.get-sector.ensures ∙ sym (cut_at b c.args.n h);
+      after = c.get_sector.ensures ∙ sym (cut_at b c.args.n h);
     }

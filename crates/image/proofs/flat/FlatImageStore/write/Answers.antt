@@ -19,7 +19,7 @@ returns c =
     let w = within (length b) n h in
     record {
       answer = access_ok _ _ _ c.if-buffer-ne-SECTOR.false (rw length_cut h);
-      after = ap cut c.put-sector.ensures ∙ cut_put b n c.args.buffer.now w c.if-buffer-ne-SECTOR.false h;
-      kept = (refl, (ap length c.put-sector.ensures ∙ length_put b n c.args.buffer.now w c.if-buffer-ne-SECTOR.false, ap (drop (512 * count_in (length b))) c.put-sector.ensures ∙ past b n c.args.buffer.now w c.if-buffer-ne-SECTOR.false (512 * count_in (length b)) (omega arith)));
-      row = c.put-sector.ensures;
+      after = ap cut c.put_sector.ensures ∙ cut_put b n c.args.buffer.now w c.if-buffer-ne-SECTOR.false h;
+      kept = (refl, (ap length c.put_sector.ensures ∙ length_put b n c.args.buffer.now w c.if-buffer-ne-SECTOR.false, ap (drop (512 * count_in (length b))) c.put_sector.ensures ∙ past b n c.args.buffer.now w c.if-buffer-ne-SECTOR.false (512 * count_in (length b)) (omega arith)));
+      row = c.put_sector.ensures;
     }

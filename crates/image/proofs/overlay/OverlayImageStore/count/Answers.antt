@@ -10,5 +10,5 @@ returns g c =
     record {
       number = search (rules, length_overlaid);
       few = c.count.ensures.few;
-      shaped = overlaid_shaped v.written v.cells (g.S.ImageStore.sectors v.below) sized c.row-length-cells.ensures.bytes c.count.ensures.shaped;
+      shaped = overlaid_shaped v.written v.cells (g.S.ImageStore.sectors v.below) sized c.row_length-cells.ensures.bytes c.count.ensures.shaped;
     }

@@ -24,6 +24,6 @@ returns g c =
     record {
       answer = c.read.ensures.answer ∙ ap (access (length c.args.buffer.now) c.args.n) (sym (length_overlaid v.written v.cells below));
       after = c.read.ensures.after ∙ ap (λ x. cond (is_ok c.read.result) x c.args.buffer.now)
-          (ap (λ b. cond b (sector_at v.cells c.args.n) (get_or below c.args.n [])) c.if-has-bit.ensures
+          (ap (λ b. cond b (sector_at v.cells c.args.n) (get_or below c.args.n [])) c.if-has_bit.ensures
           ∙ sym (overlaid_at v.written v.cells below c.args.n (rw length_overlaid at h)));
     }

@@ -14,9 +14,9 @@ returns g c =
     let sized : length v.cells ≡ 32768 = omega arith in
     record {
       answer = access_ok _ _ _ c.if-buffer-ne-SECTOR.false h;
-      after = ap (λ x. overlaid c.with-bit-self.result x below) c.put-sector.ensures
-          ∙ overlaid_put v.written c.with-bit-self.result v.cells below n c.args.buffer.now
-          c.with-bit-self.ensures (rw length_overlaid at h) few sized c.if-buffer-ne-SECTOR.false;
+      after = ap (λ x. overlaid c.with_bit-self.result x below) c.put_sector.ensures
+          ∙ overlaid_put v.written c.with_bit-self.result v.cells below n c.args.buffer.now
+          c.with_bit-self.ensures (rw length_overlaid at h) few sized c.if-buffer-ne-SECTOR.false;
       kept = refl;
-      holding = c.with-bit-self.ensures;
+      holding = c.with_bit-self.ensures;
     }
