@@ -1,9 +1,9 @@
 -- The bits of a mask, one by one.
-use Rattle.std.proofs.Common.{◌≡◌, ℕ, zero, suc, ◌+◌, ◌-◌, ◌*◌, ◌/◌, ◌%◌, ◌^◌, ◌<◌, ◌≤◌, Bool, true, false, cond, eqb, ◌≢◌, ◌⊎◌, sym, refl, ap, ◌∙◌, inl, inr, mod-eq_of_lt, add_comm, arith, eq-eqb, ne_eqb}
+use Rattle.std.proofs.Common.{◌≡◌, ℕ, zero, suc, ◌+◌, ◌-◌, ◌*◌, ◌/◌, ◌%◌, ◌^◌, ◌<◌, Bool, true, false, cond, eqb, ◌⊎◌, sym, refl, ap, ◌∙◌, inl, inr, mod-eq_of_lt, add_comm, arith, eq-eqb, ne_eqb}
 use lib.Bits.{bit_and, bit_or}
 use lib.Count.{ones, ones_cat}
 use native.Mathlib.Nat.{div-eq_of_lt, zero-div}
-use Rattle.std.proofs.lemmas.Nat.{and_mask, or_shr, or_mod, one_shl, pow-add, pow_pos, shl-shr, mod-pow-add, pow_below, mod_below, or_comm}
+use Rattle.std.proofs.lemmas.Nat.{and_mask, or_shr, or_mod, one_shl, pow-add, pow_pos, shl-shr, mod-pow-add, pow_below, mod_below}
 use Rattle.std.proofs.lemmas.Bool.{cases_eq, cases_lt}
 use Rattle.image.specs.Layers.{has, how_many}
 

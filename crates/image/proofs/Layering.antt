@@ -1,8 +1,8 @@
 -- What a write to a layer, and the loss of all that it holds, do to what is shown.
-use Rattle.std.proofs.Common.{◌≡◌, ℕ, ◌+◌, ◌*◌, ◌<◌, ◌≤◌, Bool, true, false, cond, eqb, List, [], ◌∷◌, length, get_or, set, sym, refl, ap, ◌∙◌, inl, inr, arith, eq-eqb, ne_eqb}
+use Rattle.std.proofs.Common.{◌≡◌, ℕ, ◌<◌, ◌≤◌, true, cond, eqb, List, [], length, get_or, set, sym, refl, ap, ◌∙◌, inl, inr, arith, eq-eqb, ne_eqb}
 use Rattle.std.proofs.lemmas.List.{ext_get_or, length-set, get_or-set_same, get_or-set_other}
 use Rattle.std.proofs.lemmas.Bool.{cases_eq}
-use Rattle.image.specs.Sectors.{sector_at, put, Shaped}
+use Rattle.image.specs.Sectors.{sector_at, put}
 use Rattle.image.specs.Cuts.{put_same, put_other}
 use Rattle.image.specs.Layers.{has, showing, overlaid, length_overlaid, overlaid_at}
 use Rattle.image.proofs.Bitwise.{has_none}

@@ -1,8 +1,6 @@
 -- When a call for a sector is accepted.
-use Rattle.std.specs.Prelude.{◌≡◌, ℕ, ◌<◌, ◌≤◌, Bool, true, false, cond, ◌≢◌, Ok, Err, Result, nat_eq, nat_lt, refl}
-use Rattle.std.proofs.Common.{sym, ap, ◌∙◌, arith, eq-eqb, lt-ltb}
-use Rattle.image.specs.declared.refusal.Refusal.{Refusal}
-use Rattle.image.specs.declared.refusal.Refusal.TheVariants.{BufferLength, SectorNumber}
+use Rattle.std.specs.Prelude.{◌≡◌, ℕ, ◌<◌, true, Ok, nat_eq, nat_lt}
+use Rattle.std.proofs.Common.{eq-eqb, lt-ltb}
 use Rattle.image.specs.Refusals.{access}
 
 pub access_ok : (size n count : ℕ) → size ≡ 512 → n < count → Ok tt ≡ access size n count

@@ -1,11 +1,10 @@
 -- The sectors of a row of bytes, and what a write of one sector does to them.
-use Rattle.std.specs.Prelude.{◌≡◌, ℕ, ◌+◌, ◌-◌, ◌*◌, ◌/◌, ◌<◌, ◌≤◌, min, ◌≢◌, ◌⊎◌, List, [], ◌∷◌, ◌++◌, map, length, get_or, take, drop, slice_index, slice_index_or, slice_set, refl}
-use Rattle.std.proofs.Common.{sym, ap, ◌∙◌, inl, inr, arith, rules}
-use Rattle.std.specs.List.{range_with_len}
+use Rattle.std.specs.Prelude.{◌≡◌, ℕ, ◌+◌, ◌-◌, ◌*◌, ◌<◌, ◌≤◌, ◌≢◌, List, [], ◌++◌, length, get_or, take, drop, slice_index, slice_index_or, slice_set, refl}
+use Rattle.std.proofs.Common.{sym, ap, ◌∙◌, inl, inr, arith}
 use Rattle.std.proofs.lemmas.List.FromFn.{length-map-range_with_len, get_or-map-range_with_len}
-use Rattle.std.proofs.lemmas.List.{ext_get_or, drop-take, drop_at, take_at, length-take-le, length-drop, length-take, length-set, get_or-set_same, get_or-set_other, drop-drop, length-append, take-append-le, take-take, drop-append-le, append_assoc, get_or-take, get_or-drop, get_or_past}
+use Rattle.std.proofs.lemmas.List.{ext_get_or, drop-take, drop_at, take_at, length-take-le, length-drop, length-take, length-set, get_or-set_same, get_or-set_other, drop-drop, length-append, take-append-le, take-take, append_assoc, get_or-take, get_or-drop, get_or_past}
 use Rattle.std.proofs.lemmas.Bool.{cases_eq, cases_lt}
-use Rattle.std.proofs.lemmas.Nat.{div-add-mod', mod_below}
+use Rattle.std.proofs.lemmas.Nat.{div-add-mod'}
 use Rattle.image.specs.Sectors.{cut, sector_at, count_in, put, Shaped, Bytes, Untouched}
 
 pub length_cut : (b : List ℕ) → length (cut b) ≡ count_in (length b)

@@ -1,4 +1,4 @@
-use Rattle.std.proofs.Common.{sym, ◌∙◌, arith, rules}
+use Rattle.std.proofs.Common.{rules}
 use Rattle.image.proofs.flat.FlatImageStore.count.Goals as goal
 use Rattle.image.specs.Cuts.{length_cut, cut_shaped}
 

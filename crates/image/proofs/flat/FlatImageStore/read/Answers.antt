@@ -1,11 +1,11 @@
-use Rattle.std.proofs.Common.{◌≡◌, ◌+◌, ◌*◌, ◌<◌, ◌≤◌, length, sym, ◌∙◌, arith, rules}
+use Rattle.std.proofs.Common.{◌<◌, length, sym, ◌∙◌, arith, rules}
 use Rattle.image.proofs.flat.FlatImageStore.read.Goals as goal
 use Rattle.image.specs.Sectors.{count_in}
 use Rattle.image.specs.Cuts.{length_cut, within, cut_at}
 use Rattle.image.specs.Access.{access_ok}
 
-pub get-sector-requires : goal.get-sector-requires
-get-sector-requires c =
+pub get_sector-requires : goal.get_sector-requires
+get_sector-requires c =
     let b = c.args.self.now.bytes.now in
     let h : c.args.n < count_in (length b) = omega (arith, length_cut b) in
     let w = within (length b) c.args.n h in

@@ -1,11 +1,11 @@
-use Rattle.std.proofs.Common.{◌≡◌, ℕ, ◌+◌, ◌*◌, ◌<◌, ◌≤◌, length, drop, sym, refl, ap, ◌∙◌, arith, rules}
+use Rattle.std.proofs.Common.{◌*◌, ◌<◌, length, drop, refl, ap, ◌∙◌, arith, rules}
 use Rattle.image.proofs.flat.FlatImageStore.write.Goals as goal
 use Rattle.image.specs.Sectors.{count_in, cut}
 use Rattle.image.specs.Cuts.{length_cut, within, cut_put, length_put, past}
 use Rattle.image.specs.Access.{access_ok}
 
-pub put-sector-requires : goal.put-sector-requires
-put-sector-requires c =
+pub put_sector-requires : goal.put_sector-requires
+put_sector-requires c =
     let b = c.args.self.now.bytes.now in
     let h : c.args.n < count_in (length b) = omega (arith, length_cut b) in
     let w = within (length b) c.args.n h in

@@ -1,4 +1,4 @@
-use Rattle.std.proofs.Common.{arith, rules}
+use Rattle.std.proofs.Common.{rules}
 use Rattle.image.proofs.overlay.Overlay.held.Goals as goal
 use Rattle.image.proofs.Bitwise.{ones_how_many}
 

@@ -1,4 +1,4 @@
-use Rattle.std.proofs.Common.{◌≡◌, ◌<◌, ◌≤◌, length, get_or, sym, refl, ap, ◌∙◌, arith}
+use Rattle.std.proofs.Common.{◌≡◌, ◌<◌, ◌≤◌, length, refl, ap, ◌∙◌, arith}
 use Rattle.image.proofs.overlay.OverlayImageStore.write.Goals as goal
 use Rattle.image.specs.Access.{access_ok}
 use Rattle.image.specs.Layers.{overlaid, length_overlaid}
