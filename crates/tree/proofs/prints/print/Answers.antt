@@ -15,10 +15,10 @@ loop-b-preserved c =
     let i = c.loop-b.b-index in
     let inside : i < length bytes = omega arith in
     let fits : s < 2 ^ 32 = omega (arith, c.loop-b.invariant, print_below (take i bytes)) in
-    let turned : c.rotate-left.result ≡ rotated s = c.rotate-left.ensures ∙ or_rotated s fits in
+    let turned : c.rotate_left.result ≡ rotated s = c.rotate_left.ensures ∙ or_rotated s fits in
     let byte : c.from.result ≡ get_or bytes i 0 = search rules in
     let e : rotated s ≡ rotated (print_of (take i bytes)) = ap rotated c.loop-b.invariant in
-    let sum : c.rotate-left.result + c.from.result ≡ rotated (print_of (take i bytes)) + get_or bytes i 0 = omega (arith, turned, byte, e) in
+    let sum : c.rotate_left.result + c.from.result ≡ rotated (print_of (take i bytes)) + get_or bytes i 0 = omega (arith, turned, byte, e) in
     ap (λ x. x % 2 ^ 32) sum ∙ sym (print_more bytes i inside)
 
 pub returns : goal.returns

@@ -4,5 +4,5 @@ use Rattle.tree.specs.Rules.{bare}
 use Rattle.tree.specs.Facts.{bare_allowed, lower, directories, lengths}
 use Rattle.tree.proofs.nodes.Tree.bare.Goals as goal
 
-pub invariant-of-result : goal.invariant-of-result
-invariant-of-result c = (refl, (refl, (lower bare refl bare_allowed, (directories bare refl bare_allowed, (lengths bare refl bare_allowed, tt)))))
+pub invariant_of-result : goal.invariant_of-result
+invariant_of-result c = record { size = refl; root = refl; lower = lower bare refl bare_allowed; directories = directories bare refl bare_allowed; lengths = lengths bare refl bare_allowed }
