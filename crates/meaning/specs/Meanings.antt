@@ -34,8 +34,17 @@ writes_of base items = record { base = base; effects = map effect_of items }
 abbrev pub values_of : (tree : List Node) → List Item → (p n : ℕ) → List Node
 values_of nodes items p n = node_values (slice_index_or nodes n Absent) (marks_of items) n p
 
--- THE MEANING of entries by their effects and their marks: crash points 0 to n; the candidates of sectors and of nodes, the
--- states and the judgement of each
+-- THE MEANING of entries: crash points 0 to n; the candidates of sectors and of nodes, the states and the judgement of each
+abbrev pub meaning_of : (outcome : Image → Outcome) → (base : Image) → (tree : List Node) → List Item → Recording
+meaning_of outcome base nodes items = record {
+  last = length items;
+  candidates = candidates (writes_of base items);
+  values = values_of nodes items;
+  states = states (writes_of base items);
+  judgement = λ p image. judgement (values_of nodes items p) (outcome image);
+}
+
+-- the same, by the effects and the marks of the entries
 abbrev pub meaning_by : (outcome : Image → Outcome) → (base : Image) → (tree : List Node) → List Effect → List Mark → Recording
 meaning_by outcome base nodes effects marks = record {
   last = length effects;
@@ -44,6 +53,3 @@ meaning_by outcome base nodes effects marks = record {
   states = states (record { base = base; effects = effects });
   judgement = λ p image. judgement (λ n. node_values (slice_index_or nodes n Absent) marks n p) (outcome image);
 }
-
-abbrev pub meaning_of : (outcome : Image → Outcome) → (base : Image) → (tree : List Node) → List Item → Recording
-meaning_of outcome base nodes items = meaning_by outcome base nodes (map effect_of items) (marks_of items)
