@@ -3,7 +3,7 @@ use Rattle.std.specs.Prelude.{◌≡◌, ℕ, ◌+◌, ◌≤◌, not, ◌⊎◌
 use Rattle.std.specs.List.{AllByRecursion as All}
 use Rattle.image.specs.Sectors.{Sector, Image}
 use Rattle.law.specs.Subject.{Subject, Recording, State, Permitted, Admits, image}
-use Rattle.law.specs.History.{Call, load, advance, judge, forgo, look, report, Report, Event, declined, starved, loaded, gave, ended, found, forwent, showed, reported, History, begun, then, Condition, Empty, Ended, condition, recording, given, standing, judged, unsafe, first, waiting, forgone, skipped, passed}
+use Rattle.law.specs.History.{Call, load, advance, judge, forgo, look, report, Report, Event, declined, starved, loaded, gave, ended, found, forwent, showed, reported, History, begun, then, Condition, Ended, condition, recording, given, standing, judged, unsafe, first, waiting, forgone, skipped, passed}
 use Rattle.law.specs.Rules.{Refusal, none, refusal, verdict_of}
 use Rattle.law.specs.Steps.{View, Step, Reached}
 
@@ -34,18 +34,6 @@ declined_by forwent = none
 declined_by (showed sector size content) = none
 declined_by (reported r) = none
 
--- the answer is another than that memory was wanting
-abbrev pub Fed : Event → Type 0
-Fed (declined call n p) = Unit {0}
-Fed (starved bytes) = ⊥
-Fed (loaded bytes) = Unit {0}
-Fed (gave x) = Unit {0}
-Fed ended = Unit {0}
-Fed (found o n) = Unit {0}
-Fed forwent = Unit {0}
-Fed (showed sector size content) = Unit {0}
-Fed (reported r) = Unit {0}
-
 -- no state twice
 abbrev pub Once : List State → Type 0
 Once [] = Unit {0}
@@ -75,9 +63,7 @@ pub record Safe (s : Subject) (h : History) : Type 0 where
 
 pub record Law (s : Subject) (h : History) (base : Image) : Type 0 where
   pub base_kept : base ≡ s.base
-  -- each call was declined exactly where the rules say, by that number and place; memory was wanting to a load of an Empty run only
-  pub declined_exactly : (k : History) (e : Event) → Made h k e → Fed e → declined_by e ≡ refusal s (condition k) (call_of e)
-  pub starved_empty : (k : History) (bytes : List ℕ) → Made h k (starved bytes) → condition k ≡ Empty
+  pub declined_exactly : (k : History) (e : Event) → Made h k e → declined_by e ≡ refusal s (condition k) (call_of e)
   pub given_in_order : given h ≡ filter (λ y. not (skipped h y)) (passed s h)
   pub given_once : Once (given h)
   pub looks_show : (k : History) (sector size : ℕ) (content : Sector) → Made h k (showed sector size content) → content ≡ slice_index_or (standing_image s k) sector []
@@ -91,6 +77,17 @@ abbrev pub EveryHistoryIsLawful : Type 0
 EveryHistoryIsLawful = (s : Subject) (h : History) (v : View) → Reached s h v → Law s h v.base
 
 -- THE LAW LEAVES NOTHING OPEN but a want of memory: where two answers to one call keep it, they are the same.
+abbrev pub Fed : Event → Type 0
+Fed (declined call n p) = Unit {0}
+Fed (starved bytes) = ⊥
+Fed (loaded bytes) = Unit {0}
+Fed (gave x) = Unit {0}
+Fed ended = Unit {0}
+Fed (found o n) = Unit {0}
+Fed forwent = Unit {0}
+Fed (showed sector size content) = Unit {0}
+Fed (reported r) = Unit {0}
+
 abbrev pub TheLawDecides : Type 0
 TheLawDecides = (s : Subject) (h : History) (e f : Event) (b c : Image) → Law s (then h e) b → Law s (then h f) c → call_of e ≡ call_of f → Fed e → Fed f → e ≡ f
 
