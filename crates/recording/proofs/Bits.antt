@@ -1,5 +1,5 @@
 -- One bit of a number, tested by a mask.
-use Rattle.std.proofs.Common.{◌≡◌, ℕ, ◌+◌, ◌*◌, ◌/◌, ◌%◌, ◌^◌, ◌<◌, not, eqb, ◌≢◌, sym, ap, ◌∙◌, inl, inr, add-zero, one-mul, zero-mul, arith, eq-eqb, ne_eqb}
+use Rattle.std.proofs.Common.{◌≡◌, ℕ, ◌+◌, ◌*◌, ◌/◌, ◌%◌, ◌^◌, not, eqb, ◌≢◌, sym, ap, ◌∙◌, inl, inr, add-zero, one-mul, zero-mul, arith, eq-eqb, ne_eqb}
 use lib.Bits.{bit_and}
 use native.Mathlib.Nat.{mod_self}
 use Rattle.std.proofs.lemmas.Nat.{and_mask, and_shr, and_mod, and_le_r, shr_split, pow_pos, mod_below, shl-shr}

@@ -1,16 +1,16 @@
 -- An entry is declined exactly if none within the rules is laid out.
-use Rattle.std.proofs.Common.{◌≡◌, ℕ, ◌+◌, ◌*◌, ◌≤◌, false, cond, ltb, List, ◌++◌, length, drop, Some, None, Option, sym, refl, ap, ◌∙◌, inl, inr, arith}
-use Rattle.std.proofs.lemmas.Bool.{le-ltb, cases_Bool, true≢false}
+use Rattle.std.proofs.Common.{◌≡◌, ℕ, ◌+◌, ◌*◌, ◌≤◌, false, cond, List, ◌++◌, length, drop, Some, None, ap, ◌∙◌, inl, inr, arith}
+use Rattle.std.proofs.lemmas.Bool.{le-ltb, cases_Bool}
 use Rattle.image.specs.Sectors.{Bytes}
 use Rattle.recording.specs.declared.refusal.Refusal.{Refusal}
 use Rattle.recording.specs.declared.refusal.Refusal.TheVariants.{Incomplete, Form}
 use Rattle.recording.specs.Items.{Item, Formed}
 use Rattle.recording.specs.Layout.{entry_layout}
-use Rattle.recording.specs.Entries.{sector_cut, malformed, data_in, data_cut, item_in}
+use Rattle.recording.specs.Entries.{malformed, data_in, data_cut, item_in}
 use Rattle.recording.specs.Reading.{sector_fault, entry_fault, or_else}
 use Rattle.recording.proofs.Made.{whole_sector, entry_taken}
 use Rattle.recording.proofs.Laying.{taken_formed, taken_laid}
-use Rattle.recording.proofs.Giving.{EntryReads, entry_reads}
+use Rattle.recording.proofs.Giving.{entry_reads}
 
 pub sector_taken : (k : ℕ) (x : List ℕ) → 512 ≤ length x → malformed x ≡ false → sector_fault k x ≡ None
 sector_taken k x w m =

@@ -1,9 +1,8 @@
 -- The fields of an entry's sector that keep the rules.
-use Rattle.std.proofs.Common.{◌≡◌, ℕ, ◌+◌, ◌-◌, ◌*◌, ◌/◌, ◌%◌, ◌^◌, ◌<◌, ◌≤◌, Bool, true, false, cond, not, ◌&&◌, ◌||◌, eqb, ltb, leb, sym, refl, ap, ◌∙◌, inl, inr, arith}
-use Rattle.std.proofs.lemmas.Bool.{cases_eq, or_parts, and_cases, not-false, not-true, leb-false, ltb-false, eqb-true, eq-eqb, both_ways}
+use Rattle.std.proofs.Common.{◌≡◌, ℕ, ◌+◌, ◌*◌, ◌/◌, ◌%◌, ◌<◌, ◌≤◌, true, false, cond, not, ◌&&◌, ◌||◌, eqb, ltb, leb, sym, ap, ◌∙◌, inl, inr, arith}
+use Rattle.std.proofs.lemmas.Bool.{cases_eq, or_parts, and_cases, not-false, leb-false, ltb-false, eqb-true, eq-eqb, both_ways}
 use Rattle.std.proofs.lemmas.Nat.{mod_below, shr-shr}
 use Rattle.image.specs.Layers.{has}
-use Rattle.recording.specs.declared.entry.Flags.{Flags}
 use Rattle.recording.specs.Items.{flags_of, worth}
 use Rattle.recording.specs.Entries.{mark_flawed, text_flawed, flags_flawed, fields_flawed}
 

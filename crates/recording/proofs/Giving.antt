@@ -1,5 +1,5 @@
 -- An entry within the rules that is laid out is taken, and is the one that is read.
-use Rattle.std.proofs.Common.{◌≡◌, ℕ, ◌+◌, ◌-◌, ◌*◌, ◌/◌, ◌^◌, ◌<◌, ◌≤◌, Bool, true, false, cond, not, ◌&&◌, ◌||◌, eqb, ltb, leb, List, [], ◌∷◌, ◌++◌, length, take, drop, sym, refl, ap, ◌∙◌, append_assoc, arith}
+use Rattle.std.proofs.Common.{◌≡◌, ℕ, ◌+◌, ◌-◌, ◌*◌, ◌/◌, ◌^◌, ◌<◌, ◌≤◌, Bool, true, false, cond, not, ◌&&◌, ◌||◌, eqb, ltb, leb, List, ◌++◌, length, take, drop, sym, refl, ap, ◌∙◌, append_assoc, arith}
 use Rattle.std.specs.List.{between}
 use Rattle.std.proofs.lemmas.Bool.{ne_eqb, or_from, and_left, and_right, le-ltb, lt-leb, not_from_true}
 use Rattle.std.proofs.lemmas.List.{take_at, drop_at, drop-drop, length-append}
@@ -8,7 +8,7 @@ use Rattle.recording.specs.declared.entry.Flags.{Flags}
 use Rattle.recording.specs.Numbers.{all_zero}
 use Rattle.recording.specs.Items.{Item, write, discard, flush, mark, flags_of, worth, sector_of, sectors_of, bits_of, text_of, data_of, Formed}
 use Rattle.recording.specs.Layout.{sector_layout, entry_layout}
-use Rattle.recording.specs.Entries.{sector_in, sectors_in, bits_in, size_in, text_in, mark_flawed, text_flawed, flags_flawed, fields_flawed, malformed, data_in, data_cut, item_of, item_in}
+use Rattle.recording.specs.Entries.{sector_in, sectors_in, bits_in, size_in, text_in, mark_flawed, text_flawed, flags_flawed, fields_flawed, malformed, data_in, item_of, item_in}
 use Rattle.recording.proofs.Sectoring.{SectorReads, sector_reads}
 
 -- the flags of an entry

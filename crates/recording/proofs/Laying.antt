@@ -1,14 +1,14 @@
 -- The entry that is read of a sector that keeps the rules is the one laid out there.
-use Rattle.std.proofs.Common.{◌≡◌, ℕ, ◌+◌, ◌-◌, ◌*◌, ◌/◌, ◌^◌, ◌<◌, ◌≤◌, Bool, true, false, cond, not, ◌&&◌, eqb, List, [], ◌∷◌, ◌++◌, length, take, drop, sym, refl, ap, ◌∙◌, inl, inr, append_assoc, arith}
+use Rattle.std.proofs.Common.{◌≡◌, ℕ, ◌+◌, ◌-◌, ◌*◌, ◌^◌, ◌<◌, ◌≤◌, Bool, true, false, cond, not, eqb, List, [], ◌++◌, length, drop, sym, refl, ap, ◌∙◌, inl, inr, append_assoc, arith}
 use Rattle.std.specs.List.{between}
-use Rattle.std.proofs.lemmas.Bool.{eqb-true, eqb-false, or_parts, not-false, ltb-false, and_cases, both_ways}
+use Rattle.std.proofs.lemmas.Bool.{eqb-true, eqb-false, or_parts, not-false, and_cases, both_ways}
 use Rattle.std.proofs.lemmas.List.{nil_from_length, length-take-le, length-drop}
 use Rattle.image.specs.Sectors.{Bytes}
 use Rattle.image.specs.Layers.{has}
 use Rattle.recording.specs.Numbers.{number, part, all_zero}
-use Rattle.recording.specs.Items.{Item, write, discard, flush, mark, flags_of, worth, sector_of, sectors_of, bits_of, text_of, data_of, Formed}
+use Rattle.recording.specs.Items.{Item, write, discard, flush, mark, worth, sector_of, sectors_of, bits_of, text_of, data_of, Formed}
 use Rattle.recording.specs.Layout.{sector_layout, entry_layout}
-use Rattle.recording.specs.Entries.{sector_in, sectors_in, bits_in, size_in, text_in, fields_flawed, malformed, data_in, data_cut, item_of, item_in}
+use Rattle.recording.specs.Entries.{sector_in, sectors_in, bits_in, size_in, text_in, fields_flawed, malformed, data_in, item_in}
 use Rattle.recording.proofs.Fielding.{bytes_drop, bytes_take, number_below, length_part, peel}
 use Rattle.recording.proofs.Flagging.{Kept, fields_kept, bits_sum}
 use Rattle.recording.proofs.Sectoring.{sector_laid, text_length}

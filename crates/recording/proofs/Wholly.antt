@@ -1,11 +1,11 @@
 -- A whole recording against its layout.
-use Rattle.std.proofs.Common.{◌≡◌, ℕ, zero, suc, ◌+◌, ◌-◌, ◌*◌, ◌^◌, ◌<◌, ◌≤◌, true, false, cond, eqb, ltb, List, [], ◌∷◌, ◌++◌, length, drop, Some, None, Ok, Err, Option, Result, sym, refl, ap, ◌∙◌, subst, inl, inr, arith}
+use Rattle.std.proofs.Common.{◌≡◌, ℕ, zero, suc, ◌+◌, ◌*◌, ◌≤◌, false, cond, ltb, List, [], ◌∷◌, ◌++◌, length, drop, Some, None, Ok, Err, Option, Result, sym, refl, ap, ◌∙◌, subst, inl, inr, arith}
 use Rattle.std.specs.List.{AllByRecursion as All}
-use Rattle.std.proofs.lemmas.Bool.{cases_Bool, cases_lt, le-ltb, lt-ltb, ltb-false}
+use Rattle.std.proofs.lemmas.Bool.{cases_Bool, cases_lt, le-ltb, lt-ltb}
 use Rattle.std.proofs.lemmas.List.{nil_from_length}
 use Rattle.image.specs.Sectors.{Bytes}
 use Rattle.recording.specs.declared.refusal.Refusal.{Refusal}
-use Rattle.recording.specs.declared.refusal.Refusal.TheVariants.{Head, TooMany, Incomplete, Form, Trailing}
+use Rattle.recording.specs.declared.refusal.Refusal.TheVariants.{Head, TooMany, Incomplete, Trailing}
 use Rattle.recording.specs.Items.{Item, Formed}
 use Rattle.recording.specs.Layout.{head_layout, entry_layout, entries_layout, layout, Within}
 use Rattle.recording.specs.Heads.{head_faulty, count_in}
@@ -14,10 +14,10 @@ use Rattle.recording.specs.Reading.{sector_fault, entry_fault, end_fault, open_f
 use Rattle.recording.specs.Recorded.{unless, prepend, recorded_from, recorded, counted, RecordingLaws, Validated}
 use Rattle.recording.proofs.Fielding.{bytes_drop}
 use Rattle.recording.proofs.Laying.{taken_formed, taken_laid}
-use Rattle.recording.proofs.Giving.{EntryReads, entry_reads}
+use Rattle.recording.proofs.Giving.{entry_reads}
 use Rattle.recording.proofs.Made.{whole_sector}
 use Rattle.recording.proofs.Deciding.{laid_taken, well_formed}
-use Rattle.recording.proofs.Heading.{head_laid, head_reads, HeadReads}
+use Rattle.recording.proofs.Heading.{head_laid, head_reads}
 
 -- an answer that is given had no reason against it
 pub no_reason : {A : Type 0} (o : Option Refusal) (r : Result A Refusal) (a : A) → unless o r ≡ Ok a → (o ≡ None) × (r ≡ Ok a)

@@ -1,5 +1,5 @@
 -- What an entry of a recording says.
-use Rattle.std.specs.Prelude.{◌≡◌, ℕ, ◌+◌, ◌*◌, ◌/◌, ◌^◌, ◌<◌, ◌≤◌, Bool, true, false, cond, ◌&&◌, List, [], length}
+use Rattle.std.specs.Prelude.{◌≡◌, ℕ, ◌+◌, ◌*◌, ◌/◌, ◌^◌, ◌<◌, ◌≤◌, Bool, false, cond, ◌&&◌, List, [], length}
 use Rattle.image.specs.Sectors.{Bytes}
 use Rattle.image.specs.Layers.{has}
 use Rattle.recording.specs.declared.entry.Flags.{Flags}

@@ -1,5 +1,5 @@
 -- The layout of a recording: from the entries to the bytes.
-use Rattle.std.specs.Prelude.{◌≡◌, ℕ, ◌-◌, ◌≤◌, List, [], ◌∷◌, ◌++◌, length, replicate, codes}
+use Rattle.std.specs.Prelude.{ℕ, ◌-◌, ◌≤◌, List, [], ◌∷◌, ◌++◌, length, replicate, codes}
 use Rattle.std.specs.List.{AllByRecursion as All}
 use Rattle.recording.specs.Numbers.{field}
 use Rattle.recording.specs.Items.{Item, sector_of, sectors_of, bits_of, text_of, data_of, Formed}

@@ -1,8 +1,7 @@
 -- Reading a recording, entry by entry.
-use Rattle.std.specs.Prelude.{◌≡◌, ℕ, zero, suc, ◌+◌, ◌-◌, ◌*◌, ◌<◌, ◌≤◌, Bool, true, false, cond, List, [], ◌∷◌, ◌++◌, length, take, drop, Some, None, Ok, Err, Option, Result, ◌==◌, ◌≢◌, nat_lt}
+use Rattle.std.specs.Prelude.{◌≡◌, ℕ, ◌+◌, ◌-◌, ◌*◌, ◌<◌, ◌≤◌, cond, List, [], ◌++◌, length, take, drop, Some, None, Ok, Err, Option, Result, ◌==◌, ◌≢◌, nat_lt}
 use Rattle.recording.specs.declared.refusal.Refusal.{Refusal}
 use Rattle.recording.specs.declared.refusal.Refusal.TheVariants.{Head, TooMany, Incomplete, Form, Trailing}
-use Rattle.recording.specs.declared.entry.Flags.{Flags}
 use Rattle.recording.specs.declared.entry.Header.{Header}
 use Rattle.recording.specs.declared.entry.Entry.{Entry}
 use Rattle.recording.specs.declared.entry.Entry.TheVariants.{Write, Discard, Flush, Mark}

@@ -1,12 +1,11 @@
 -- What a recording means: its entries, or the first reason to decline it.
-use Rattle.std.specs.Prelude.{◌≡◌, ℕ, zero, suc, ◌+◌, cond, List, [], ◌∷◌, length, drop, Some, None, Ok, Err, Option, Result, ◌≢◌}
+use Rattle.std.specs.Prelude.{◌≡◌, ℕ, zero, suc, ◌+◌, List, [], ◌∷◌, length, drop, Some, None, Ok, Err, Option, Result, ◌≢◌}
 use Rattle.image.specs.Sectors.{Bytes}
 use Rattle.recording.specs.declared.refusal.Refusal.{Refusal}
-use Rattle.recording.specs.declared.refusal.Refusal.TheVariants.{Head, TooMany}
 use Rattle.recording.specs.declared.entry.Reader.{Reader}
 use Rattle.recording.specs.Items.{Item}
 use Rattle.recording.specs.Layout.{layout, Within}
-use Rattle.recording.specs.Heads.{head_faulty, count_in}
+use Rattle.recording.specs.Heads.{count_in}
 use Rattle.recording.specs.Entries.{item_in, rest_of}
 use Rattle.recording.specs.Reading.{entry_fault, end_fault, open_fault, ahead, next_number}
 

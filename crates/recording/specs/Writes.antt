@@ -1,5 +1,5 @@
 -- Which sectors an entry writes, and what.
-use Rattle.std.specs.Prelude.{ℕ, ◌+◌, ◌-◌, Bool, ◌&&◌, List, [], replicate, nat_le, nat_lt}
+use Rattle.std.specs.Prelude.{ℕ, ◌+◌, ◌-◌, Bool, ◌&&◌, [], replicate, nat_le, nat_lt}
 use Rattle.image.specs.Sectors.{Sector, sector_at}
 use Rattle.recording.specs.Items.{Item, write, discard, flush, mark, sector_of, sectors_of}
 

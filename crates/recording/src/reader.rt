@@ -13,7 +13,7 @@ fn is_head_faulty(bytes: &[u8]) -> bool
     ensures { result ≡ head_faulty bytes.now }
 {
     bytes.len() < 512
-        || &bytes[0..8] != b"rhswfsj\0"
+        || &bytes[0..8] != b"rhswfsj\0".as_slice()
         || number64(bytes, 8) != 1
         || number32(bytes, 24) != 512
         || !zeros(&bytes[28..512])

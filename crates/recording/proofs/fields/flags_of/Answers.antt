@@ -1,5 +1,4 @@
 -- Each flag is one bit of the field.
-use Rattle.std.proofs.Common.{◌≡◌, refl}
 use Rattle.recording.proofs.Bits.{bit_test}
 use Rattle.recording.proofs.fields.flags_of.Goals as goal
 

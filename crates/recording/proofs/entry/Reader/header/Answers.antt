@@ -1,5 +1,5 @@
 -- At the end nothing is left.
-use Rattle.std.proofs.Common.{sym, ap, ◌∙◌, arith}
+use Rattle.std.proofs.Common.{sym, ◌∙◌, arith}
 use Rattle.std.proofs.lemmas.List.{nil_from_length}
 use Rattle.recording.proofs.entry.Reader.header.Goals as goal
 

@@ -1,5 +1,5 @@
 -- The part from the place on is all that is dropped to; past the end nothing is left.
-use Rattle.std.proofs.Common.{◌-◌, ◌≤◌, length, take, drop, sym, ap, ◌∙◌, arith}
+use Rattle.std.proofs.Common.{◌-◌, length, drop, sym, arith}
 use Rattle.std.proofs.lemmas.List.{length-drop, take_all, drop_all}
 use Rattle.recording.proofs.entry.Reader.rest.Goals as goal
 
