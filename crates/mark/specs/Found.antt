@@ -1,5 +1,5 @@
 -- The mark that a text spells, found by trying them all.
-use Rattle.std.specs.Prelude.{◌≡◌, ℕ, zero, suc, ◌+◌, ◌-◌, ◌*◌, ◌^◌, Bool, true, false, cond, ◌&&◌, ◌||◌, ◌↔◌, List, [], ◌∷◌, length, drop, Some, None, codes, fold, Option, ◌==◌, nat_le, nat_lt}
+use Rattle.std.specs.Prelude.{◌≡◌, ℕ, zero, suc, ◌+◌, ◌-◌, ◌*◌, ◌^◌, Bool, false, cond, ◌&&◌, ◌||◌, ◌↔◌, List, [], ◌∷◌, length, drop, Some, None, codes, fold, Option, ◌==◌, nat_le, nat_lt}
 use Rattle.std.specs.Str.{bytes_eq}
 use Rattle.tree.specs.Hex.{hexes}
 use Rattle.mark.specs.declared.mark.Mark.{Mark}

@@ -90,7 +90,7 @@ fn file(body: &[u8]) -> Option<Mark>
 fn directory(body: &[u8]) -> Option<Mark>
     ensures { Finds (100 ∷ body.now) result }
 {
-    if body == b"m-log-writes-end" {
+    if body == b"m-log-writes-end".as_slice() {
         return Some(Mark::Comment);
     }
     let Some(n) = spaced(body) else {

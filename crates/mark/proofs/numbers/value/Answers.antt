@@ -1,6 +1,5 @@
 -- Each digit adds its value to 10 times the number.
 use Rattle.std.proofs.Common.{rules}
-use Rattle.std.specs.Str.Parse.{digits_value}
 use Rattle.std.proofs.lemmas.Int.Digits.{digits_value_more}
 use Rattle.std.proofs.lemmas.List.{take_all}
 use Rattle.mark.proofs.Lemmas.{digit_is, ten_more}

@@ -21,8 +21,8 @@ returns-in-None c =
     let never : (m : Mark) → Spells m t → ⊥ = λ m s. c.in-None.ensures m (subst (Spells m) (by_first t _ some refl) s) in
     record { spelled = never; only = λ m s. absurd (never m s); value = none_value t never }
 
-pub returns-in-default : goal.returns-in-default
-returns-in-default c =
+pub returns-in_default : goal.returns-in_default
+returns-in_default c =
     let t = c.args.text.now in
     let never = empty_never t (search rules) in
     record { spelled = never; only = λ m s. absurd (never m s); value = none_value t never }

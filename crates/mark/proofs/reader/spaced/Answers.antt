@@ -1,6 +1,5 @@
 -- The space before a number.
 use Rattle.std.proofs.Common.{◌≡◌, ◌<◌, length, get_or, rules}
-use Rattle.mark.specs.Marks.{spaced}
 use Rattle.mark.proofs.Texts.{by_first, spaced_from}
 use Rattle.mark.proofs.reader.spaced.Goals as goal
 
