@@ -1,5 +1,5 @@
 -- Sectors written out, for worked examples.
-use Rattle.std.specs.Prelude.{ℕ, ◌+◌, ◌-◌, ◌/◌, ◌%◌, ◌^◌, List, [], ◌∷◌, ◌++◌, length, replicate}
+use Rattle.std.specs.Prelude.{ℕ, ◌-◌, ◌/◌, ◌%◌, ◌^◌, List, [], ◌∷◌, ◌++◌, length, replicate}
 
 -- bytes, and then zeros up to 512
 abbrev pub padded : List ℕ → List ℕ

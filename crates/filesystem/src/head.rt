@@ -10,7 +10,7 @@ use image::ImageStore;
 
 /// Checks the number of sectors and the first two words.
 pub fn check_head<S: ImageStore>(image: &S, least: usize, format: u32) -> Result<(), Fault>
-    ensures { result ≡ head_of least format (sectors image.now) }
+    ensures { result ≡ head_of least format (S.sectors image.now) }
 {
     let count = image.count();
     if count < least {

@@ -15,7 +15,7 @@ use tree::{Builder, Node, Tree, print};
 
 /// Sector `n`; where there is none, zeros.
 pub fn fetch<S: ImageStore>(image: &S, n: usize) -> [u8; 512]
-    ensures { result ≡ sector_of (sectors image.now) n }
+    ensures { result ≡ sector_of (S.sectors image.now) n }
 {
     let mut buffer = [0u8; SECTOR];
     let _ = image.read(n, &mut buffer);
@@ -24,7 +24,7 @@ pub fn fetch<S: ImageStore>(image: &S, n: usize) -> [u8; 512]
 
 /// The print of the first `size` bytes of a sector, of all where it has no more.
 fn front_print<S: ImageStore>(image: &S, sector: usize, size: usize) -> u32
-    ensures { result ≡ print_of (take size (sector_of (sectors image.now) sector)) }
+    ensures { result ≡ print_of (take size (sector_of (S.sectors image.now) sector)) }
 {
     let buffer = fetch(image, sector);
     print(&buffer[0..size.min(SECTOR)])
@@ -32,7 +32,7 @@ fn front_print<S: ImageStore>(image: &S, sector: usize, size: usize) -> u32
 
 /// The node that `word` means.
 fn meaning<S: ImageStore>(image: &S, word: u32) -> Node
-    ensures { result ≡ node_of (sectors image.now) word }
+    ensures { result ≡ node_of (S.sectors image.now) word }
 {
     let parent = ((word >> 26) % 16) as u8;
     match word >> 30 {
@@ -52,8 +52,8 @@ fn meaning<S: ImageStore>(image: &S, word: u32) -> Node
 
 /// Lays the node that `word` means, unless the word or the node breaks a rule.
 fn lay_word<S: ImageStore>(image: &S, lowest: usize, word: u32, builder: &mut Builder) -> bool
-    ensures answer { result ≡ (word_stands lowest (length (sectors image.now)) builder.old.laid word && allowed builder.old.nodes builder.old.laid (node_of (sectors image.now) word)) }
-    ensures nodes { builder.new.nodes ≡ (if result then slice_set builder.old.nodes builder.old.laid (node_of (sectors image.now) word) else builder.old.nodes) }
+    ensures answer { result ≡ (word_stands lowest (length (S.sectors image.now)) builder.old.laid word && allowed builder.old.nodes builder.old.laid (node_of (S.sectors image.now) word)) }
+    ensures nodes { builder.new.nodes ≡ (if result then slice_set builder.old.nodes builder.old.laid (node_of (S.sectors image.now) word) else builder.old.nodes) }
     ensures laid { builder.new.laid ≡ (if result then builder.old.laid + 1 else builder.old.laid) }
 {
     if !word_stands(lowest, image.count(), builder.laid(), word) {
@@ -64,7 +64,7 @@ fn lay_word<S: ImageStore>(image: &S, lowest: usize, word: u32, builder: &mut Bu
 
 /// Reads the tree. On a fault `tree` is as it was.
 pub fn read_tree<S: ImageStore>(image: &S, lowest: usize, tree: &mut Tree) -> Result<(), Fault>
-    ensures told { told result tree.new.nodes ≡ tree_of lowest (sectors image.now) }
+    ensures told { told result tree.new.nodes ≡ tree_of lowest (S.sectors image.now) }
     ensures tree { is_ok result ≡ false → tree.new ≡ tree.old }
 {
     let sector = fetch(image, 1);
