@@ -1,14 +1,14 @@
 -- A recording that is taken, entry by entry.
-use Rattle.std.proofs.Common.{◌≡◌, ℕ, ◌+◌, ◌-◌, ◌<◌, ◌≤◌, Bool, true, false, cond, List, [], ◌∷◌, length, is_ok, Some, None, Ok, Err, Option, Result, sym, refl, ap, ◌∙◌, subst, inl, inr, arith}
-use Rattle.std.proofs.lemmas.Bool.{cases_Bool, both_ways}
+use Rattle.std.proofs.Common.{◌≡◌, ℕ, ◌+◌, true, false, cond, List, ◌∷◌, is_ok, Some, None, Ok, Err, Option, sym, refl, ap, ◌∙◌, subst, inl, inr, arith}
+use Rattle.std.proofs.lemmas.Bool.{cases_Bool}
 use Rattle.recording.specs.declared.refusal.Refusal.{Refusal}
 use Rattle.recording.specs.declared.entry.Entry.{Entry}
 use Rattle.recording.specs.declared.entry.Reader.{Reader}
 use Rattle.recording.specs.Items.{Item}
 use Rattle.recording.specs.Writes.{outside}
-use Rattle.recording.specs.Reading.{ahead, item_seen, next_number, moved, reader_fault, open_fault, Opening, Stepping}
+use Rattle.recording.specs.Reading.{ahead, item_seen, next_number, moved, Opening, Stepping}
 use Rattle.recording.specs.Entries.{item_in}
-use Rattle.recording.specs.Recorded.{prepend, recorded, remaining, items_of}
+use Rattle.recording.specs.Recorded.{recorded, remaining, items_of}
 use Rattle.recording.proofs.Remaining.{remaining_whole, remaining_step, remaining_declined, remaining_none, prepended_ok, prepended_items, unopened}
 use Rattle.patch.specs.Replayed.{Sound, Taken, first_outside}
 

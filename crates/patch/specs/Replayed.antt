@@ -1,5 +1,5 @@
 -- A whole recording replayed onto an image.
-use Rattle.std.specs.Prelude.{◌≡◌, ℕ, ◌+◌, ◌≤◌, Bool, true, cond, List, [], ◌∷◌, length, is_ok, Some, None, Ok, Err, Option, Result}
+use Rattle.std.specs.Prelude.{◌≡◌, ℕ, ◌+◌, ◌≤◌, true, cond, List, [], ◌∷◌, length, is_ok, Some, None, Ok, Err, Option, Result}
 use Rattle.image.specs.Sectors.{Image}
 use Rattle.recording.specs.declared.refusal.Refusal.{Refusal}
 use Rattle.recording.specs.declared.entry.Entry.{Entry}

@@ -1,5 +1,5 @@
 -- After n turns the first n sectors are those of the other store.
-use Rattle.std.proofs.Common.{◌≡◌, ◌+◌, ◌-◌, ◌<◌, ◌≤◌, List, [], ◌∷◌, ◌++◌, length, get_or, take, drop, set, sym, refl, ap, ◌∙◌, arith}
+use Rattle.std.proofs.Common.{◌≡◌, [], length, get_or, set, sym, ap, ◌∙◌, arith}
 use Rattle.std.proofs.lemmas.Bool.{eq-eqb}
 use Rattle.patch.proofs.Copying.{copied_more, copied_all, length_copied}
 use Rattle.patch.proofs.compare.copy_image.Goals as goal

@@ -3,7 +3,7 @@ use Rattle.std.proofs.Common.{◌≡◌, ◌+◌, length, sym, ap, ◌∙◌}
 use Rattle.recording.specs.Items.{sector_of, sectors_of}
 use Rattle.recording.specs.Writes.{nth}
 use Rattle.recording.specs.Reading.{item_seen, next_number}
-use Rattle.recording.specs.Recorded.{recorded, remaining, items_of}
+use Rattle.recording.specs.Recorded.{remaining, items_of}
 use Rattle.patch.specs.Replayed.{first_outside, applied_all}
 use Rattle.patch.specs.Patched.{applied}
 use Rattle.patch.proofs.Patching.{length_patched}
@@ -30,14 +30,14 @@ loop-entry-preserved g c =
     let e = item_seen c.in-Some.entry in
     let rest = items_of (remaining c.take.new.reader) in
     let image = g.S.ImageStore.sectors c.loop-entry.store in
-    let after = g.S.ImageStore.sectors c.apply-entry.new.store in
+    let after = g.S.ImageStore.sectors c.apply_entry.new.store in
     let t = c.in-Some.ensures in
     let i = c.loop-entry.invariant in
-    let a : after ≡ applied e image = c.in-Ok-apply-entry.ensures.after in
+    let a : after ≡ applied e image = c.in-Ok-apply_entry.ensures.after in
     let n : length after ≡ length image = ap length a ∙ length_patched (sector_of e) (nth e) image (sectors_of e) in
     let o = none_outside (next_number r) (length image) e rest (ap (first_outside (next_number r) (length image)) (sym t.0) ∙ i.1) in (
       t.1,
       ap (λ k. first_outside k (length after) rest) t.2 ∙ ap (λ m. first_outside (next_number r + 1) m rest) n ∙ o.1,
       ap (applied_all rest) a ∙ ap (λ es. applied_all es image) (sym t.0) ∙ i.2,
-      g.S.ImageStore.onward c.args.store.now c.loop-entry.store c.apply-entry.new.store i.3 c.in-Ok-apply-entry.ensures.kept,
+      g.S.ImageStore.onward c.args.store.now c.loop-entry.store c.apply_entry.new.store i.3 c.in-Ok-apply_entry.ensures.kept,
     )

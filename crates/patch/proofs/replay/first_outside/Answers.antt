@@ -1,6 +1,6 @@
 -- What is left decides which entry is the first outside.
-use Rattle.std.proofs.Common.{◌≡◌, ap, ◌∙◌}
-use Rattle.recording.specs.Recorded.{recorded, remaining, items_of}
+use Rattle.std.proofs.Common.{ap, ◌∙◌}
+use Rattle.recording.specs.Recorded.{remaining, items_of}
 use Rattle.patch.specs.Replayed.{first_outside}
 use Rattle.patch.proofs.Replaying.{opens, begun}
 use Rattle.patch.proofs.replay.first_outside.Goals as goal
