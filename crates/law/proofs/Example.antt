@@ -1,13 +1,12 @@
 -- A run over one sector and a recording with no entries.
-use Rattle.std.proofs.Common.{◌≡◌, ℕ, zero, suc, ◌<◌, ◌≤◌, ◌⊎◌, ◌↔◌, List, [], ◌∷◌, length, get_or, sym, refl, ap, ◌∙◌, subst, inl, inr, arith}
+use Rattle.std.proofs.Common.{◌≡◌, ℕ, zero, suc, ◌<◌, [], ◌∷◌, length, get_or, sym, refl, ap, subst, inl, arith}
 use Rattle.std.specs.List.{ContainsAt as Has}
 use Rattle.image.specs.Sectors.{Sector, Image}
-use Rattle.tree.specs.declared.node.Node.{Node}
 use Rattle.tree.specs.declared.node.Node.TheVariants.{Absent}
 use Rattle.filesystem.specs.Outcomes.{Outcome, a_tree}
 use Rattle.law.specs.Subject.{Recording, Permitted, Sound, Loading, takes, declines, Subject, nothing}
-use Rattle.law.specs.History.{Report, loaded, gave, ended, found, reported, History, begun, then}
-use Rattle.law.specs.Steps.{View, Reached, fresh, on_load, on_giving, on_judge, on_end, report_on}
+use Rattle.law.specs.History.{loaded, gave, ended, found, History, begun, then}
+use Rattle.law.specs.Steps.{View, fresh, on_load, on_giving, on_judge, on_end, report_on}
 use Rattle.law.specs.Law.{SomeRunIsSafe}
 
 abbrev content : Sector

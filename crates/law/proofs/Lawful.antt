@@ -1,18 +1,17 @@
 -- Every history by which a run can come about keeps the law.
-use Rattle.std.proofs.Common.{◌≡◌, ℕ, zero, suc, ◌+◌, ◌<◌, ◌≤◌, Bool, true, false, cond, not, ◌&&◌, ◌||◌, ltb, ◌⊎◌, ◌↔◌, List, [], ◌∷◌, ◌++◌, length, get_or, filter, sym, refl, ap, ◌∙◌, subst, inl, inr, ⊎_elim, append-nil, arith, length-append}
+use Rattle.std.proofs.Common.{◌≡◌, ℕ, ◌+◌, ◌≤◌, Bool, true, false, cond, not, ltb, ◌↔◌, List, [], ◌∷◌, ◌++◌, length, get_or, filter, sym, refl, ap, ◌∙◌, subst, inl, inr, ⊎_elim, append-nil, arith, length-append}
 use Rattle.std.specs.List.{ContainsAt as Has, AllByRecursion as All}
 use Rattle.std.proofs.lemmas.List.{get_or_default}
-use Rattle.std.proofs.lemmas.Bool.{cases_Bool, ltb-false, ltb-true, both_ways, cond-true, cond-false}
-use Rattle.image.specs.Sectors.{Sector, Image}
-use Rattle.tree.specs.declared.node.Node.{Node}
+use Rattle.std.proofs.lemmas.Bool.{cases_Bool, ltb-false, both_ways, cond-true, cond-false}
+use Rattle.image.specs.Sectors.{Image}
 use Rattle.filesystem.specs.Outcomes.{Outcome, a_tree, a_fault}
-use Rattle.law.specs.Subject.{Subject, Recording, Sound, State, Admitted, Admits, Judges, Lowest, Permitted, takes, count, image, list, meaning}
-use Rattle.law.specs.History.{Report, Event, declined, starved, loaded, gave, ended, found, forwent, showed, reported, History, begun, then, Condition, Empty, Ready, Waiting, Judged, Left, Ended, condition, recording, given, standing, judged, unsafe, first, waiting, forgone, skipped, passed, passed_of, if_found}
+use Rattle.law.specs.Subject.{Subject, Recording, Sound, State, Admits, Judges, image, list, meaning}
+use Rattle.law.specs.History.{Report, Event, declined, starved, loaded, gave, ended, found, forwent, showed, reported, History, begun, then, Condition, Empty, Ready, Waiting, Judged, Left, Ended, condition, recording, given, standing, judged, unsafe, first, forgone, skipped, passed, if_found}
 use Rattle.law.specs.Rules.{refusal, verdict_of}
-use Rattle.law.specs.Steps.{View, Step, Reached, fresh, report_on}
-use Rattle.law.specs.Law.{Made, call_of, declined_by, Once, standing_image, judgement_of, report_of, AllRecover, Safe, Law, EveryHistoryIsLawful}
+use Rattle.law.specs.Steps.{View, Step, Reached, report_on}
+use Rattle.law.specs.Law.{Made, call_of, declined_by, Once, standing_image, judgement_of, report_of, AllRecover, Safe, EveryHistoryIsLawful}
 use Rattle.law.proofs.States.{all_list, once_kept}
-use Rattle.law.proofs.Facts.{part, in_hand, Place, Fine, AllFine, Facts, Follows, Closes, follows, closes, loading, judging, on_load, on_giving, on_end, on_judge, on_forgo, length_forgo, agree, once_part}
+use Rattle.law.proofs.Facts.{part, in_hand, Place, Fine, Facts, follows, closes, loading, judging, on_load, on_giving, on_end, on_judge, on_forgo, length_forgo, agree, once_part}
 
 -- the states that were judged
 abbrev pub judged_states : History → List State

@@ -1,5 +1,5 @@
 -- The history of a run: the calls made, each with its answer, and what is read off it.
-use Rattle.std.specs.Prelude.{◌≡◌, ℕ, zero, suc, ◌+◌, ◌-◌, Bool, true, false, cond, not, ◌&&◌, ◌||◌, List, [], ◌∷◌, ◌++◌, length, filter, ◌==◌, nat_le, nat_lt}
+use Rattle.std.specs.Prelude.{ℕ, ◌+◌, ◌-◌, Bool, false, cond, not, ◌&&◌, ◌||◌, List, [], ◌∷◌, ◌++◌, filter, ◌==◌, nat_le, nat_lt}
 use Rattle.image.specs.Sectors.{Sector}
 use Rattle.law.specs.Subject.{Subject, Recording, State, count, list, nothing, meaning}
 

@@ -3,7 +3,7 @@ use Rattle.std.specs.Prelude.{◌≡◌, ℕ, ◌+◌, ◌≤◌, not, ◌⊎◌
 use Rattle.std.specs.List.{AllByRecursion as All}
 use Rattle.image.specs.Sectors.{Sector, Image}
 use Rattle.law.specs.Subject.{Subject, Recording, State, Permitted, Admits, image}
-use Rattle.law.specs.History.{Call, load, advance, judge, forgo, look, report, Report, Event, declined, starved, loaded, gave, ended, found, forwent, showed, reported, History, begun, then, Condition, Ended, condition, recording, given, standing, judged, unsafe, first, waiting, forgone, skipped, passed}
+use Rattle.law.specs.History.{Call, load, advance, judge, forgo, look, report, Report, Event, declined, starved, loaded, gave, ended, found, forwent, showed, reported, History, begun, then, Ended, condition, recording, given, standing, judged, unsafe, first, waiting, forgone, skipped, passed}
 use Rattle.law.specs.Rules.{Refusal, none, refusal, verdict_of}
 use Rattle.law.specs.Steps.{View, Step, Reached}
 

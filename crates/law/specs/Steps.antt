@@ -1,5 +1,5 @@
 -- One call of a run: what it answers, and what the run is then.
-use Rattle.std.specs.Prelude.{◌≡◌, ℕ, ◌+◌, Bool, cond, not, ◌&&◌, List, [], Some, None, Option, ◌==◌, nat_le, nat_lt, slice_index_or}
+use Rattle.std.specs.Prelude.{◌≡◌, ℕ, ◌+◌, cond, not, ◌&&◌, List, [], Some, None, Option, ◌==◌, nat_le, nat_lt, slice_index_or}
 use Rattle.image.specs.Sectors.{Image}
 use Rattle.law.specs.Subject.{Subject, Recording, State, count, image, nothing, meaning}
 use Rattle.law.specs.History.{Call, load, advance, judge, forgo, look, Report, Event, declined, starved, loaded, gave, ended, found, forwent, showed, reported, History, begun, then, Condition, Empty, Ready, Waiting, Judged, Left, Ended, waiting, bad, rest}
