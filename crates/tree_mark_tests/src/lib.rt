@@ -1,7 +1,6 @@
 //! Trees and marks at the edges of the rules. There is nothing here but tests.
 #![tactic(auto)]
 
-
 #[cfg(test)]
 mod trees {
     use std::process::Abort;
