@@ -1,6 +1,5 @@
 -- What each accepted call makes of a run's progress.
-use Rattle.std.specs.Prelude.{ℕ, ◌+◌, ◌-◌, ◌^◌, min, Bool, true, false, cond, ◌&&◌, ◌==◌}
-use Rattle.progress.specs.declared.condition.Condition.{Condition}
+use Rattle.std.specs.Prelude.{ℕ, ◌+◌, ◌-◌, ◌^◌, min, Bool, cond, ◌&&◌, ◌==◌}
 use Rattle.progress.specs.declared.condition.Condition.TheVariants.{Empty, Ready, Waiting, Judged, Left, Ended}
 use Rattle.progress.specs.declared.condition.Progress.{Progress}
 

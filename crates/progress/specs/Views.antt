@@ -1,5 +1,4 @@
 -- Progress as the law sees it.
-use Rattle.std.specs.Prelude.{ℕ}
 use Rattle.image.specs.Sectors.{Image}
 use Rattle.law.specs.Subject.{Recording}
 use Rattle.law.specs.History as H
