@@ -10,10 +10,10 @@ use image::{ImageStore, copy_sector};
 
 /// Copies sector `from` to sector `to`.
 fn copy<S: ImageStore>(image: &mut S, from: usize, to: usize)
-    requires source { from < length (sectors image.old) }
-    requires target { to < length (sectors image.old) }
-    ensures after { sectors image.new ≡ slice_set (sectors image.old) to (sector_of (sectors image.old) from) }
-    ensures kept { keeps image.old image.new }
+    requires source { from < length (S.sectors image.old) }
+    requires target { to < length (S.sectors image.old) }
+    ensures after { S.sectors image.new ≡ slice_set (S.sectors image.old) to (sector_of (S.sectors image.old) from) }
+    ensures kept { S.keeps image.old image.new }
 {
     match copy_sector(image, from, to) {
         Ok(()) => {}
@@ -23,10 +23,10 @@ fn copy<S: ImageStore>(image: &mut S, from: usize, to: usize)
 
 /// Writes sector `n`.
 fn replace<S: ImageStore>(image: &mut S, n: usize, sector: &[u8])
-    requires inside { n < length (sectors image.old) }
+    requires inside { n < length (S.sectors image.old) }
     requires whole { length sector.now ≡ 512 }
-    ensures after { sectors image.new ≡ slice_set (sectors image.old) n sector.now }
-    ensures kept { keeps image.old image.new }
+    ensures after { S.sectors image.new ≡ slice_set (S.sectors image.old) n sector.now }
+    ensures kept { S.keeps image.old image.new }
 {
     match image.write(n, sector) {
         Ok(()) => {}
@@ -49,9 +49,9 @@ fn put_word(sector: &mut [u8], i: usize, word: u32)
 
 /// Gives sector 0 the next sequence number.
 fn advance<S: ImageStore>(image: &mut S)
-    requires { 0 < length (sectors image.old) }
-    ensures after { sectors image.new ≡ slice_set (sectors image.old) 0 (advanced (sector_of (sectors image.old) 0)) }
-    ensures kept { keeps image.old image.new }
+    requires { 0 < length (S.sectors image.old) }
+    ensures after { S.sectors image.new ≡ slice_set (S.sectors image.old) 0 (advanced (sector_of (S.sectors image.old) 0)) }
+    ensures kept { S.keeps image.old image.new }
 {
     let mut sector = fetch(image, 0);
     let sequence = rest_of(word_at(&sector, 2));
@@ -61,11 +61,11 @@ fn advance<S: ImageStore>(image: &mut S)
 
 /// Copies the sectors of the transaction to their homes.
 fn copy_homes<S: ImageStore>(image: &mut S, size: usize)
-    requires room { 16 ≤ length (sectors image.old) }
-    requires stood { stands (sectors image.old) ≡ true }
-    requires whole { size ≡ size_of (sectors image.old) }
-    ensures after { sectors image.new ≡ copied (sectors image.old) size }
-    ensures kept { keeps image.old image.new }
+    requires room { 16 ≤ length (S.sectors image.old) }
+    requires stood { stands (S.sectors image.old) ≡ true }
+    requires whole { size ≡ size_of (S.sectors image.old) }
+    ensures after { S.sectors image.new ≡ copied (S.sectors image.old) size }
+    ensures kept { S.keeps image.old image.new }
 {
     let sector = fetch(image, 2);
     for i in 0..size {
@@ -75,9 +75,9 @@ fn copy_homes<S: ImageStore>(image: &mut S, size: usize)
 
 /// Carries out the transaction that stands, if one does.
 pub fn restore<S: ImageStore>(image: &mut S)
-    requires { 16 ≤ length (sectors image.old) }
-    ensures after { sectors image.new ≡ recovered (sectors image.old) }
-    ensures kept { keeps image.old image.new }
+    requires { 16 ≤ length (S.sectors image.old) }
+    ensures after { S.sectors image.new ≡ recovered (S.sectors image.old) }
+    ensures kept { S.keeps image.old image.new }
 {
     let Some(size) = standing(image) else {
         return;

@@ -19,7 +19,7 @@ fn sector_sum(sector: &[u8]) -> u32
 /// The sum of the words of sectors 2 to 2 + `size`.
 pub fn journal_sum<S: ImageStore>(image: &S, size: usize) -> u32
     requires { size ≤ 6 }
-    ensures { result ≡ journal_sum (sectors image.now) size % 2 ^ 30 }
+    ensures { result ≡ journal_sum (S.sectors image.now) size % 2 ^ 30 }
 {
     let mut sum = 0;
     for j in 0..size + 1 {

@@ -21,7 +21,7 @@ const LOWEST: usize = 10;
 
 /// Checks that word 2 of sector 0 is a sequence number.
 fn check_sequence<S: ImageStore>(image: &S) -> Result<(), Fault>
-    ensures { result ≡ sequenced (sectors image.now) }
+    ensures { result ≡ sequenced (S.sectors image.now) }
 {
     if kind_of(word_at(&fetch(image, 0), 2)) == 3 {
         Ok(())

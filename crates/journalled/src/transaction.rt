@@ -9,7 +9,7 @@ use image::ImageStore;
 
 /// The image's sequence number.
 fn sequence_of<S: ImageStore>(image: &S) -> u32
-    ensures { result ≡ sequence_of (sectors image.now) }
+    ensures { result ≡ sequence_of (S.sectors image.now) }
 {
     rest_of(word_at(&fetch(image, 0), 2))
 }
@@ -17,7 +17,7 @@ fn sequence_of<S: ImageStore>(image: &S) -> u32
 /// Whether sector 3 + `size` commits a transaction of the sequence number.
 fn is_committed<S: ImageStore>(sequence: u32, image: &S, size: usize) -> bool
     requires { size ≤ 6 }
-    ensures { result ≡ commits sequence (sectors image.now) size }
+    ensures { result ≡ commits sequence (S.sectors image.now) size }
 {
     let sector = fetch(image, 3 + size);
     is_word(word_at(&sector, 0), 1, sequence)
@@ -26,7 +26,7 @@ fn is_committed<S: ImageStore>(sequence: u32, image: &S, size: usize) -> bool
 
 /// The size of the transaction that stands, if one does.
 pub fn standing<S: ImageStore>(image: &S) -> Option<usize>
-    ensures { result ≡ (if stands (sectors image.now) then Some (size_of (sectors image.now)) else None) }
+    ensures { result ≡ (if stands (S.sectors image.now) then Some (size_of (S.sectors image.now)) else None) }
 {
     let sequence = sequence_of(image);
     let sector = fetch(image, 2);

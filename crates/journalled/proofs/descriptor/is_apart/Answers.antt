@@ -14,8 +14,8 @@ loop-j-preserved c =
     let ne : home_in d c.loop-j.j ≡ home_in d c.args.i → ⊥ = λ e. omega (arith, e) in
     every_more _ c.loop-j.j c.loop-j.invariant (not_from_false _ (ne_eqb _ _ ne))
 
-pub returns-then-home-in : goal.returns-then-home-in
-returns-then-home-in c =
+pub returns-then-home_in : goal.returns-then-home_in
+returns-then-home_in c =
     let d = c.args.sector.now in
     let same : home_in d c.loop-j.j ≡ home_in d c.args.i = omega arith in
     sym (every_fails (λ m. not (eqb (home_in d m) (home_in d c.args.i))) c.args.i c.loop-j.j (omega arith) (not_from_true _ (eq-eqb _ _ same)))

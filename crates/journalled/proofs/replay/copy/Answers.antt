@@ -8,5 +8,5 @@ returns g c =
     let im = g.S.ImageStore.sectors c.args.image.now in
     record {
       after = c.in-Ok.ensures.after ∙ ap (set im c.args.to) (sector_is im c.args.from c.requires.source);
-      kept = c.copy-sector.ensures.kept;
+      kept = c.copy_sector.ensures.kept;
     }

@@ -12,9 +12,9 @@ loop-j-init g c =
 pub loop-j-preserved : goal.loop-j-preserved
 loop-j-preserved g c =
     let f : ℕ → ℕ = λ j. word_sum (sector_of (g.S.ImageStore.sectors c.args.image.now) (2 + j)) in
-    let one : c.sector-sum.result ≡ f c.loop-j.j % 2 ^ 30 = c.sector-sum.ensures ∙ ap (λ s. word_sum s % 2 ^ 30) c.fetch.ensures in
+    let one : c.sector_sum.result ≡ f c.loop-j.j % 2 ^ 30 = c.sector_sum.ensures ∙ ap (λ s. word_sum s % 2 ^ 30) c.fetch.ensures in
     let all : c.loop-j.sum ≡ total f c.loop-j.j % 2 ^ 30 = c.loop-j.invariant in
-    c.rest-of-sum.ensures ∙ step c.loop-j.sum c.sector-sum.result (total f c.loop-j.j) (f c.loop-j.j) (total f (c.loop-j.j + 1)) all one (total_more f c.loop-j.j)
+    c.rest_of-sum.ensures ∙ step c.loop-j.sum c.sector_sum.result (total f c.loop-j.j) (f c.loop-j.j) (total f (c.loop-j.j + 1)) all one (total_more f c.loop-j.j)
   where
     step : (x y a b t : ℕ) → x ≡ a % 2 ^ 30 → y ≡ b % 2 ^ 30 → t ≡ a + b → (x + y) % 2 ^ 30 ≡ t % 2 ^ 30
     step x y a b t p q r = omega arith

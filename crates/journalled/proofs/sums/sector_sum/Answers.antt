@@ -9,4 +9,4 @@ loop-i-init c = omega (arith, total_none (word_at c.args.sector.now))
 
 pub loop-i-preserved : goal.loop-i-preserved
 loop-i-preserved c =
-    omega (arith, total_more (word_at c.args.sector.now) c.loop-i.i, c.word-at.ensures, c.loop-i.invariant)
+    omega (arith, total_more (word_at c.args.sector.now) c.loop-i.i, c.word_at.ensures, c.loop-i.invariant)

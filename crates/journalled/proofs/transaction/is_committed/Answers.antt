@@ -3,10 +3,10 @@ use Rattle.std.proofs.Common.{rules}
 use Rattle.journalled.specs.Journal.{commits}
 use Rattle.journalled.proofs.transaction.is_committed.Goals as goal
 
-pub returns-then-is-word : goal.returns-then-is-word
+pub returns-then-is_word : goal.returns-then-is_word
 unfolding commits
-returns-then-is-word g c = search rules
+returns-then-is_word g c = search rules
 
-pub returns-else-is-word : goal.returns-else-is-word
+pub returns-else-is_word : goal.returns-else-is_word
 unfolding commits
-returns-else-is-word g c = search rules
+returns-else-is_word g c = search rules
