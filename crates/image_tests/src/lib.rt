@@ -1,7 +1,6 @@
 //! Image stores at the edges of their limits. There is nothing here but tests.
 #![tactic(auto)]
 
-
 #[cfg(test)]
 mod tables {
     use image::{Flat, ImageStore, Overlay, Refusal};

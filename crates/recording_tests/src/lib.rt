@@ -1,7 +1,6 @@
 //! Recordings at the edges of the rules. There is nothing here but tests.
 #![tactic(auto)]
 
-
 #[cfg(test)]
 mod tables {
     use recording::{Entry, Reader, Refusal, validate};
@@ -264,7 +263,7 @@ mod tables {
         assert!(rt; reader.header()?.is_some());
         match reader.next()? {
             Some(Entry::Mark { text, place }) => {
-                assert!(rt; text == b"xxxxx");
+                assert!(rt; text == b"xxxxx".as_slice());
                 assert_eq!(rt; place, 544);
             }
             _ => return Err(Fail::new("no mark")),
