@@ -3,7 +3,6 @@ use Rattle.std.specs.Prelude.{ℕ, zero, suc, List, [], ◌++◌, codes, decimal
 use Rattle.tree.specs.declared.node.Node.{Node}
 use Rattle.tree.specs.declared.node.Node.TheVariants.{Absent}
 use Rattle.tree.specs.Texts.{written}
-use Rattle.filesystem.specs.declared.fault.Fault.{Fault}
 use Rattle.filesystem.specs.Outcomes.{Outcome, a_tree, a_fault, code_of}
 
 -- a node's number and the node

@@ -1,5 +1,5 @@
 -- The numbers are the fault's.
-use Rattle.std.proofs.Common.{◌≡◌, IfOk, string_bytes, subst, rules}
+use Rattle.std.proofs.Common.{◌≡◌, IfOk, string_bytes, subst}
 use Rattle.recovery.specs.Lines.{pair_line}
 use Rattle.recovery.proofs.lines.fault_line.Goals as goal
 
