@@ -1,16 +1,16 @@
 -- A node's history as that of a sector: a mark that puts a value writes it, and a sync flushes.
-use Rattle.std.proofs.Common.{◌≡◌, ℕ, zero, suc, ◌+◌, ◌<◌, ◌≤◌, Bool, true, false, cond, eqb, ◌⊎◌, ◌↔◌, List, [], ◌∷◌, map, length, get_or, sym, refl, ap, ◌∙◌, subst, inl, inr, arith}
+use Rattle.std.proofs.Common.{◌≡◌, ℕ, zero, suc, ◌≤◌, Bool, true, false, cond, ◌↔◌, List, [], ◌∷◌, map, length, sym, refl, ap, ◌∙◌, subst, inl, inr, arith}
 use Rattle.std.proofs.lemmas.List.{get_or-map, get_or_past, length-map}
 use Rattle.std.proofs.lemmas.Bool.{cases_lt, cases_Bool}
 use Rattle.tree.specs.declared.node.Node.{Node}
 use Rattle.mark.specs.declared.mark.Mark.{Mark}
 use Rattle.mark.specs.declared.mark.Mark.TheVariants.{File as file, Directory as directory, Absent as absent, Sync as sync, Comment as comment}
 use Rattle.crash.specs.Effects.{Effect}
-use Rattle.crash.specs.Rules.{Recording, effect_at, nothing, Writes, Durable, StruckOut, HasNumber, Stands}
+use Rattle.crash.specs.Rules.{Recording, effect_at, nothing, Writes, Durable, HasNumber, Stands}
 use Rattle.crash.specs.Lists.{◌∈◌, Ascending}
 use Rattle.crash.specs.States.{is_writer, numbers}
 use Rattle.crash.specs.Walk.{put, settle, turn, walk}
-use Rattle.crash.specs.Nodes.{is_put, is_sync, value_of, mark_at, node_turn, node_values, NodeAdmitted, HasValue, Synced, Overtaken, ValueStands, numbered}
+use Rattle.crash.specs.Nodes.{is_put, is_sync, value_of, mark_at, node_turn, node_values, NodeAdmitted, HasValue, Synced, ValueStands, numbered}
 use Rattle.crash.proofs.Durability.{by_flush_alone, flush_durable}
 use Rattle.crash.proofs.Numbering.{in_numbers, numbers_in, numbers_ascending, writer_decides}
 use Rattle.crash.proofs.Walking.{walk_map, walk_numbers}

@@ -1,6 +1,6 @@
 -- Small recordings, on nine sectors of 512 bytes. A, B, the base's content and zeros are four different contents.
 use Rattle.std.specs.Prelude.{◌≡◌, ℕ, true, false, List, [], ◌∷◌, map, length, replicate, slice_index_or}
-use Rattle.image.specs.Sectors.{Sector, Image}
+use Rattle.image.specs.Sectors.{Sector}
 use Rattle.recording.specs.Items.{Item, write, discard, flush}
 use Rattle.tree.specs.Prints.{print_of}
 use Rattle.crash.specs.Effects.{effect_of}

@@ -1,6 +1,6 @@
 -- What a crash may leave: the rules.
 -- Entries are numbered 1 to n. Crash point p, 0 to n, lies after entry p.
-use Rattle.std.specs.Prelude.{◌≡◌, ℕ, zero, suc, ◌+◌, ◌-◌, ◌<◌, ◌≤◌, Bool, true, false, ◌⊎◌, List, [], length, slice_index_or}
+use Rattle.std.specs.Prelude.{◌≡◌, ℕ, zero, suc, ◌+◌, ◌-◌, ◌<◌, ◌≤◌, true, false, ◌⊎◌, List, [], length, slice_index_or}
 use Rattle.image.specs.Sectors.{Sector, Image}
 use Rattle.crash.specs.Effects.{Effect}
 
