@@ -1,11 +1,11 @@
 -- What steps write, and the step and the effect of each number.
-use Rattle.std.proofs.Common.{◌≡◌, ℕ, zero, suc, ◌+◌, ◌-◌, ◌<◌, ◌≤◌, ◌&&◌, ltb, leb, List, [], map, length, get_or, vec_items, sym, refl, ap, ◌∙◌, subst, inl, inr, arith}
+use Rattle.std.proofs.Common.{◌≡◌, ℕ, zero, suc, ◌+◌, ◌-◌, ◌<◌, ◌≤◌, ◌&&◌, ltb, leb, List, [], length, get_or, vec_items, sym, ap, ◌∙◌, subst, inl, inr, arith}
 use Rattle.crash.specs.States.{is_writer}
 use Rattle.std.proofs.lemmas.List.FromFn.{length-map-range_with_len, get_or-map-range_with_len}
 use Rattle.std.proofs.lemmas.List.{length-replicate, get_or-replicate, get_or_past, get_or-map, get_or_read_under, length-map}
 use Rattle.std.proofs.lemmas.Bool.{cases_lt}
 use Rattle.image.specs.Sectors.{Sector}
-use Rattle.crash.specs.Effects.{Effect, zeros}
+use Rattle.crash.specs.Effects.{zeros}
 use Rattle.crash.specs.Rules.{content, nothing}
 use Rattle.trace.specs.declared.steps.Source.{Source}
 use Rattle.trace.specs.declared.steps.Source.TheVariants.{Zeros, Data}
