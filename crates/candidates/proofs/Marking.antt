@@ -1,12 +1,12 @@
 -- A node's history, mark by mark.
-use Rattle.std.proofs.Common.{◌≡◌, ℕ, zero, suc, ◌+◌, ◌<◌, ◌≤◌, Bool, true, false, cond, leb, List, [], ◌∷◌, length, get_or, vec_items, sym, refl, ap, ◌∙◌, subst, inl, inr, add-one, arith}
+use Rattle.std.proofs.Common.{◌≡◌, ℕ, ◌+◌, ◌<◌, ◌≤◌, Bool, true, false, cond, leb, List, [], ◌∷◌, length, vec_items, sym, refl, ap, ◌∙◌, subst, inl, inr, add-one, arith}
 use Rattle.std.proofs.lemmas.List.{get_or-map, get_or_past, length-map}
 use Rattle.std.proofs.lemmas.Bool.{cases_lt, le-leb, leb-true, leb-false}
 use Rattle.tree.specs.declared.node.Node.{Node}
 use Rattle.mark.specs.declared.mark.Mark.{Mark}
 use Rattle.mark.specs.declared.mark.Mark.TheVariants.{Comment}
-use Rattle.crash.specs.Walk.{put, settle}
-use Rattle.crash.specs.Nodes.{is_sync, is_put, value_of, mark_at, node_turn, node_values}
+use Rattle.crash.specs.Walk.{settle}
+use Rattle.crash.specs.Nodes.{mark_at, node_turn, node_values}
 use Rattle.trace.specs.declared.steps.Trace.{Trace}
 use Rattle.trace.specs.declared.steps.Step.{Step}
 use Rattle.trace.specs.Meaning.{idle, step_at, marks_of}

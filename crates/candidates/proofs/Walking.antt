@@ -1,17 +1,16 @@
 -- The numbers of a point from those of the point before.
-use Rattle.std.proofs.Common.{◌≡◌, ℕ, zero, suc, ◌+◌, ◌<◌, ◌≤◌, true, false, cond, leb, ◌⊎◌, List, [], ◌∷◌, length, get_or, vec_items, sym, refl, ap, ◌∙◌, subst, inl, inr, add-one, arith}
+use Rattle.std.proofs.Common.{◌≡◌, ℕ, suc, ◌+◌, ◌<◌, ◌≤◌, true, false, cond, leb, List, [], ◌∷◌, length, get_or, vec_items, sym, ap, ◌∙◌, subst, inl, inr, add-one, arith}
 use Rattle.std.proofs.lemmas.Bool.{cases_lt, leb-true, leb-false}
 use Rattle.image.specs.Sectors.{Image}
-use Rattle.crash.specs.Effects.{Effect}
-use Rattle.crash.specs.Rules.{effect_at, nothing}
+use Rattle.crash.specs.Rules.{effect_at}
 use Rattle.crash.specs.States.{numbers}
-use Rattle.crash.specs.Walk.{put, settle, turn, walk}
+use Rattle.crash.specs.Walk.{settle, turn, walk}
 use Rattle.crash.proofs.Walking.{walk_numbers}
 use Rattle.trace.specs.declared.steps.Trace.{Trace}
 use Rattle.trace.specs.declared.steps.Step.{Step}
-use Rattle.trace.specs.Meaning.{idle, step_at, step_effect, effects_of, recording_of}
+use Rattle.trace.specs.Meaning.{idle, recording_of}
 use Rattle.trace.proofs.Writing.{effect_one, covers_writes}
-use Rattle.candidates.specs.Turns.{written_by, stepped, turned}
+use Rattle.candidates.specs.Turns.{written_by, turned}
 use Rattle.candidates.specs.Gathering.{FirstAbove, NoneAbove, numbers_at}
 
 module _ (base : Image) (t : Trace) (s : ℕ) where

@@ -1,5 +1,5 @@
 -- What one entry leaves of a history.
-use Rattle.std.specs.Prelude.{ℕ, Bool, cond, List, [], ◌∷◌, ◌++◌, vec_items}
+use Rattle.std.specs.Prelude.{ℕ, Bool, cond, List, vec_items}
 use Rattle.crash.specs.Walk.{put, settle}
 use Rattle.trace.specs.declared.steps.Trace.{Trace}
 use Rattle.trace.specs.declared.steps.Step.{Step}

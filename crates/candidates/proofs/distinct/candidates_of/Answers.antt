@@ -1,6 +1,5 @@
-use Rattle.std.proofs.Common.{◌≡◌, ◌<◌, length, sym, ap, ◌∙◌, arith}
+use Rattle.std.proofs.Common.{◌<◌, length, ap, ◌∙◌, arith}
 use Rattle.image.specs.Sectors.{Sector}
-use Rattle.crash.specs.Rules.{Recording}
 use Rattle.crash.specs.Lists.{firsts}
 use Rattle.trace.specs.Meaning.{effects_of, recording_of, content_at}
 use Rattle.candidates.specs.Lists.{listed}
@@ -16,7 +15,7 @@ returns-in-Ok g c =
     let h = c.in-Ok.ensures image in (
       inside,
       h.0,
-      c.leave-out.ensures
+      c.leave_out.ensures
           ∙ ap (λ (x : Sector). firsts (content_at x (effects_of t) s) (listed c.in-Ok.numbers)) c.fetch-content.ensures
           ∙ ap (firsts (content_at _ (effects_of t) s)) h.1
           ∙ firsts_candidates (recording_of image t) c.args.point s,

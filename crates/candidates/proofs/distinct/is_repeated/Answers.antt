@@ -1,4 +1,4 @@
-use Rattle.std.proofs.Common.{◌≡◌, ℕ, Bool, true, false, List, length, get_or, take, sym, ap, ◌∙◌, arith}
+use Rattle.std.proofs.Common.{◌≡◌, ℕ, Bool, true, false, List, get_or, sym, ap, ◌∙◌}
 use Rattle.std.specs.Str.{bytes_eq}
 use Rattle.std.proofs.lemmas.List.{take_all}
 use Rattle.trace.specs.Meaning.{effects_of, content_at}
@@ -10,19 +10,19 @@ use Rattle.candidates.proofs.distinct.is_repeated.Goals as goal
 compared : (b : Bool) (x y u v : List ℕ) → b ≡ bytes_eq x y → x ≡ u → y ≡ v → bytes_eq u v ≡ b
 compared b x y u v e f g = sym (e ∙ ap (λ z. bytes_eq z y) f ∙ ap (bytes_eq u) g)
 
-pub returns-then-same-bytes : goal.returns-then-same-bytes
-returns-then-same-bytes c =
+pub returns-then-same_bytes : goal.returns-then-same_bytes
+returns-then-same_bytes c =
     let value = content_at c.args.base.now (effects_of c.args.trace.now) c.args.sector in
     let ks = c.args.earlier.now in
     sym (repeated_at value ks c.loop-k.k-index c.args.number c.loop-k-test.true
-    (compared true c.content.result.now c.content-content.result.now (value (get_or ks c.loop-k.k-index 0)) (value c.args.number) c.if-same-bytes.ensures c.content.ensures c.content-content.ensures))
+    (compared true c.content.result.now c.content-content.result.now (value (get_or ks c.loop-k.k-index 0)) (value c.args.number) c.if-same_bytes.ensures c.content.ensures c.content-content.ensures))
 
 pub loop-k-preserved : goal.loop-k-preserved
 loop-k-preserved c =
     let value = content_at c.args.base.now (effects_of c.args.trace.now) c.args.sector in
     let ks = c.args.earlier.now in
     repeated_more value ks c.loop-k.k-index c.args.number c.loop-k-test.true c.loop-k.invariant
-    (compared false c.content.result.now c.content-content.result.now (value (get_or ks c.loop-k.k-index 0)) (value c.args.number) c.if-same-bytes.ensures c.content.ensures c.content-content.ensures)
+    (compared false c.content.result.now c.content-content.result.now (value (get_or ks c.loop-k.k-index 0)) (value c.args.number) c.if-same_bytes.ensures c.content.ensures c.content-content.ensures)
 
 pub returns : goal.returns
 returns c =

@@ -1,4 +1,4 @@
-use Rattle.std.proofs.Common.{◌≡◌, length, take, sym, ap, ◌∙◌, arith}
+use Rattle.std.proofs.Common.{ap, ◌∙◌}
 use Rattle.std.proofs.lemmas.List.{take_all}
 use Rattle.crash.specs.Lists.{firsts}
 use Rattle.trace.specs.Meaning.{effects_of, content_at}
@@ -6,13 +6,13 @@ use Rattle.candidates.specs.Lists.{listed}
 use Rattle.candidates.proofs.Leaving.{leave_turn, leave_room}
 use Rattle.candidates.proofs.distinct.leave_out.Goals as goal
 
-pub add-unless-requires : goal.add-unless-requires
-add-unless-requires c =
+pub add_unless-requires : goal.add_unless-requires
+add_unless-requires c =
     leave_room (content_at c.args.base.now (effects_of c.args.trace.now) c.args.sector) c.values-all.result.now c.loop-i.i (listed c.loop-i.stay) c.loop-i-test.true c.values-all.ensures.few c.loop-i.invariant
 
 pub loop-i-preserved : goal.loop-i-preserved
 loop-i-preserved c =
-    leave_turn (content_at c.args.base.now (effects_of c.args.trace.now) c.args.sector) c.values-all.result.now c.loop-i.i (listed c.loop-i.stay) (listed c.add-unless.new.stay) c.is-repeated-repeated.result c.loop-i-test.true c.loop-i.invariant c.is-repeated-repeated.ensures c.add-unless.ensures
+    leave_turn (content_at c.args.base.now (effects_of c.args.trace.now) c.args.sector) c.values-all.result.now c.loop-i.i (listed c.loop-i.stay) (listed c.add_unless.new.stay) c.is_repeated-repeated.result c.loop-i-test.true c.loop-i.invariant c.is_repeated-repeated.ensures c.add_unless.ensures
 
 pub returns : goal.returns
 returns c =

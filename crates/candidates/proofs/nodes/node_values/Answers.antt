@@ -25,7 +25,7 @@ loop-k-preserved c =
       c.in-Ok.ensures.cells,
       λ start e.
           let i = c.loop-k.invariant.1 start e in
-          node_goes_on start (marks_of c.args.trace.now) c.args.node c.loop-k.k c.step.result.mark (held c.loop-k.history) (held c.turn-node.new.history) m i.0 i.1 c.in-Ok.ensures.answer (c.in-Ok.ensures.values refl),
+          node_goes_on start (marks_of c.args.trace.now) c.args.node c.loop-k.k c.step.result.mark (held c.loop-k.history) (held c.turn_node.new.history) m i.0 i.1 c.in-Ok.ensures.answer (c.in-Ok.ensures.values refl),
     )
 
 pub returns : goal.returns
@@ -35,4 +35,4 @@ returns c =
     let start = c.args.start in
     let marks = marks_of c.args.trace.now in
     let n = c.args.node in
-    (subst (NoneAbove (values_at start marks n)) e i.1, c.few-of.ensures ∙ c.values.ensures ∙ i.0 ∙ ap (λ (p : ℕ). node_values start marks n p) e)
+    (subst (NoneAbove (values_at start marks n)) e i.1, c.few_of.ensures ∙ c.values.ensures ∙ i.0 ∙ ap (λ (p : ℕ). node_values start marks n p) e)

@@ -1,5 +1,5 @@
 -- The history after each entry holds the numbers of the entry's point.
-use Rattle.std.proofs.Common.{◌≡◌, ℕ, ◌<◌, ◌≤◌, length, sym, refl, ap, ◌∙◌, subst, arith, rules}
+use Rattle.std.proofs.Common.{◌≡◌, ℕ, refl, ap, ◌∙◌, subst, arith, rules}
 use Rattle.history.specs.Held.{held}
 use Rattle.crash.specs.States.{numbers}
 use Rattle.trace.specs.Meaning.{recording_of}
@@ -31,5 +31,5 @@ returns c = λ base.
     let d = recording_of base c.args.trace.now in
     let s = c.args.sector in (
       subst (NoneAbove (numbers_at d s)) e i.1,
-      c.few-of.ensures ∙ c.values.ensures ∙ i.0 ∙ ap (λ (p : ℕ). numbers d p s) e,
+      c.few_of.ensures ∙ c.values.ensures ∙ i.0 ∙ ap (λ (p : ℕ). numbers d p s) e,
     )
