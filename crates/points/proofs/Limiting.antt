@@ -1,5 +1,5 @@
 -- Limits of points, step by step.
-use Rattle.std.proofs.Common.{◌≡◌, ℕ, zero, suc, ◌+◌, ◌-◌, ◌<◌, ◌≤◌, Bool, true, false, cond, ◌⊎◌, List, [], ◌∷◌, ◌++◌, length, drop, Ok, Err, Result, sym, refl, ap, ◌∙◌, subst, inl, inr, arith}
+use Rattle.std.proofs.Common.{◌≡◌, ℕ, zero, suc, ◌+◌, ◌-◌, ◌<◌, ◌≤◌, Bool, true, false, cond, List, length, Ok, Err, sym, refl, subst, inl, inr, arith}
 use Rattle.std.proofs.lemmas.List.{length_push, length-drop}
 use Rattle.std.proofs.lemmas.Bool.{cases_lt}
 use Rattle.tree.specs.declared.node.Node.{Node}
@@ -10,7 +10,6 @@ use Rattle.crash.specs.Walk.{put, settle}
 use Rattle.crash.specs.Nodes.{is_sync, is_put, value_of, mark_at, node_turn, node_values}
 use Rattle.candidates.specs.declared.refusal.Refusal.{Refusal}
 use Rattle.candidates.specs.declared.refusal.Refusal.TheVariants.{SectorNumber, Candidates, States}
-use Rattle.candidates.specs.declared.eight.Few.{Few}
 use Rattle.candidates.specs.Gathering.{FirstAbove, NoneAbove, numbers_at, Found}
 use Rattle.candidates.specs.Noding.{values_at, NodeGathered}
 use Rattle.points.specs.Counting.{Crowded, Uncrowded, Fine, Counted, Checked, SectorsCounted, NodesChecked}

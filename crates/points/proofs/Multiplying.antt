@@ -1,12 +1,11 @@
 -- Products of candidate counts, one sector more.
-use Rattle.std.proofs.Common.{◌≡◌, ℕ, ◌+◌, ◌*◌, ◌<◌, ◌≤◌, min, List, [], ◌∷◌, ◌++◌, map, length, sym, refl, ap, ◌∙◌, subst, inl, inr, mul-le-mul_right, mul_assoc, mul-le-mul_left, one-mul, mul-one, arith}
+use Rattle.std.proofs.Common.{◌≡◌, ℕ, ◌+◌, ◌*◌, ◌<◌, ◌≤◌, min, List, [], ◌∷◌, ◌++◌, length, sym, ap, ◌∙◌, inl, inr, mul-le-mul_right, mul_assoc, mul-le-mul_left, one-mul, mul-one, arith}
 use Rattle.std.specs.List.{range_with_len}
 use Rattle.std.proofs.lemmas.List.FromFn.{map-range_with_len_more}
 use Rattle.std.proofs.lemmas.List.{length-map}
 use Rattle.std.proofs.lemmas.Simd.{map-map}
 use Rattle.std.proofs.lemmas.Bool.{cases_lt}
 use Rattle.crash.specs.Rules.{Recording, written}
-use Rattle.crash.specs.Laws.{counts}
 use Rattle.crash.specs.States.{numbers, candidates, candidate_numbers, columns, states}
 use Rattle.crash.specs.Ranks.{product}
 use Rattle.crash.proofs.Repeating.{map_firsts}

@@ -1,4 +1,4 @@
-use Rattle.std.proofs.Common.{◌≡◌, ℕ, ◌<◌, ◌≤◌, length, sym, ◌∙◌, arith}
+use Rattle.std.proofs.Common.{◌≤◌, length, arith}
 use Rattle.trace.specs.Meaning.{recording_of, marks_of, effects_of}
 use Rattle.trace.proofs.Writing.{effects_length}
 use Rattle.points.specs.Counting.{Fine}

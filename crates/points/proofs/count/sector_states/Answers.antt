@@ -1,4 +1,4 @@
-use Rattle.std.proofs.Common.{◌≡◌, ℕ, ◌<◌, ◌≤◌, length, sym, refl, ap, ◌∙◌, arith}
+use Rattle.std.proofs.Common.{◌≡◌, ℕ, ◌<◌, length, refl, ap, ◌∙◌, arith}
 use Rattle.crash.specs.Ranks.{product}
 use Rattle.trace.specs.Meaning.{recording_of}
 use Rattle.candidates.specs.Gathering.{NoneAbove, numbers_at}

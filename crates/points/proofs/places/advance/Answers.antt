@@ -1,5 +1,5 @@
 -- From the last place down, those without room go back to 0, and the first with room goes one up.
-use Rattle.std.proofs.Common.{◌≡◌, ℕ, ◌-◌, ◌<◌, ◌≤◌, List, length, get_or, sym, refl, ap, ◌∙◌, subst, arith}
+use Rattle.std.proofs.Common.{◌≡◌, ℕ, ◌-◌, ◌<◌, get_or, sym, refl, subst, arith}
 use Rattle.points.proofs.Turning.{Turning, turning_start, turning_room, turning_more, turning_changed, turning_done}
 use Rattle.points.proofs.places.advance.Goals as goal
 
@@ -11,7 +11,7 @@ returns-then-places-i c =
     let e = sym c.if-places-counts.false in
     let counts = c.args.counts.now in
     let before = c.args.places.now in
-    let room : get_or c.loop-i.places (c.loop-i.i - 1) 0 < get_or counts (c.loop-i.i - 1) 0 - 1 = omega (arith, c.if-places-i.true, c.saturating-sub-last.ensures) in (
+    let room : get_or c.loop-i.places (c.loop-i.i - 1) 0 < get_or counts (c.loop-i.i - 1) 0 - 1 = omega (arith, c.if-places-i.true, c.saturating_sub-last.ensures) in (
       e,
       turning_room counts before c.loop-i.i c.loop-i.places e c.loop-i.invariant c.loop-i-test.true room,
       turning_changed counts before c.loop-i.i c.loop-i.places e c.loop-i.invariant c.loop-i-test.true _ refl,
@@ -19,7 +19,7 @@ returns-then-places-i c =
 
 pub loop-i-preserved : goal.loop-i-preserved
 loop-i-preserved c =
-    turning_more c.args.counts.now c.args.places.now c.loop-i.i c.loop-i.places (sym c.if-places-counts.false) c.loop-i.invariant c.loop-i-test.true (omega (arith, c.if-places-i.false, c.saturating-sub-last.ensures))
+    turning_more c.args.counts.now c.args.places.now c.loop-i.i c.loop-i.places (sym c.if-places-counts.false) c.loop-i.invariant c.loop-i-test.true (omega (arith, c.if-places-i.false, c.saturating_sub-last.ensures))
 
 pub returns : goal.returns
 returns c =
