@@ -1,6 +1,6 @@
 -- The states of a point, and the list of all points.
 use Rattle.std.proofs.Common.{◌≡◌, ℕ, zero, suc, ◌+◌, ◌-◌, ◌<◌, ◌≤◌, List, [], ◌∷◌, length, get_or, sym, refl, ap, ◌∙◌, subst, inl, inr, zero-le, add-zero, zero-add, arith}
-use Rattle.std.specs.List.{range_with_len, flat_map, AllByRecursion as All}
+use Rattle.std.specs.List.{range_with_len, flat_map, AllByRecursion}
 use Rattle.std.proofs.ByRecursion.{All-map}
 use Rattle.image.specs.Sectors.{Sector, Image}
 use Rattle.crash.specs.Rules.{Recording, Permitted}
@@ -33,7 +33,7 @@ module _ (d : Recording) (p : ℕ) where
       (λ s l. subst (λ (k : ℕ). get_or image s [] ∈ candidates d p k) (sym (zero-add s)) (candidates_in d p s (get_or image s []) (h.1 s l))))
 
   -- what holds of the candidates of each sector holds of each column
-  all_columns : (P : List Sector → Type 0) → ((s : ℕ) → P (candidates d p s)) → All P (columns d p)
+  all_columns : (P : List Sector → Type 0) → ((s : ℕ) → P (candidates d p s)) → AllByRecursion P (columns d p)
   unfolding columns
   all_columns P each =
       All-map P (candidates d p) (range_with_len 0 (length d.base)) (all_from_in (λ s. P (candidates d p s)) (range_with_len 0 (length d.base)) (λ s _. each s))

@@ -1,6 +1,6 @@
 -- Words on lists.
 use Rattle.std.specs.Prelude.{◌≡◌, ℕ, ◌<◌, not, ◌⊎◌, List, [], ◌∷◌, map, filter}
-use Rattle.std.specs.List.{flat_map, AllByRecursion as All}
+use Rattle.std.specs.List.{flat_map, AllByRecursion}
 use Rattle.std.specs.Str.{bytes_eq}
 
 infix 50 ◌∈◌
@@ -17,7 +17,7 @@ Once (x ∷ xs) = (x ∈ xs → ⊥) × Once xs
 -- R holds of each element and every one that follows it
 abbrev pub InOrder : {X : Type 0} → (X → X → Type 0) → List X → Type 0
 InOrder R [] = Unit {0}
-InOrder R (x ∷ xs) = All (R x) xs × InOrder R xs
+InOrder R (x ∷ xs) = AllByRecursion (R x) xs × InOrder R xs
 
 abbrev pub Ascending : List ℕ → Type 0
 Ascending xs = InOrder (λ j k. j < k) xs

@@ -1,6 +1,6 @@
 -- Every history by which a run can come about keeps the law.
 use Rattle.std.proofs.Common.{◌≡◌, ℕ, ◌+◌, ◌≤◌, Bool, true, false, cond, not, ltb, ◌↔◌, List, [], ◌∷◌, ◌++◌, length, get_or, filter, sym, refl, ap, ◌∙◌, subst, inl, inr, ⊎_elim, append-nil, arith, length-append}
-use Rattle.std.specs.List.{ContainsAt as Has, AllByRecursion as All}
+use Rattle.std.specs.List.{ContainsAt as Has, AllByRecursion}
 use Rattle.std.proofs.lemmas.List.{get_or_default}
 use Rattle.std.proofs.lemmas.Bool.{cases_Bool, ltb-false, both_ways, cond-true, cond-false}
 use Rattle.image.specs.Sectors.{Image}
@@ -101,7 +101,7 @@ module _ (s : Subject) (h : History) (K : Core s h) where
       let H : Has (R.states p) im = (S.exact p l im).1 perm in
       let Q : Condition → Type 0 = λ c. judged_states h ++ in_hand c (standing h) ≡ part R c (standing h) in
       let whole : judged_states h ≡ list R = sym (append-nil (judged_states h)) ∙ subst Q e (K.full f0) in
-      let P : List State → Type 0 = λ t. All (Fine R) t in
+      let P : List State → Type 0 = λ t. AllByRecursion (Fine R) t in
       let fine : Fine R (p, H.0) = all_list (Fine R) R (p, H.0) l H.1 (subst P whole (K.none_bad u0)) in
       let zero : (R.judgement p im).0 ≡ 0 = ap (λ (i : Image). (R.judgement p i).0) (sym (H.2 [])) ∙ fine in
       admits R p (s.outcome im) (R.judgement p im) (S.judges p l im) zero

@@ -1,6 +1,6 @@
 -- THE LAW of a history and of the base image after it.
 use Rattle.std.specs.Prelude.{◌≡◌, ℕ, ◌+◌, ◌≤◌, not, ◌⊎◌, ◌↔◌, List, [], ◌∷◌, length, Some, filter, ◌≢◌, slice_index_or}
-use Rattle.std.specs.List.{AllByRecursion as All}
+use Rattle.std.specs.List.{AllByRecursion}
 use Rattle.image.specs.Sectors.{Sector, Image}
 use Rattle.law.specs.Subject.{Subject, Recording, State, Permitted, Admits, image}
 use Rattle.law.specs.History.{Call, load, advance, judge, forgo, look, report, Report, Event, declined, starved, loaded, gave, ended, found, forwent, showed, reported, History, begun, then, Ended, condition, recording, given, standing, judged, unsafe, first, waiting, forgone, skipped, passed}
@@ -37,7 +37,7 @@ declined_by (reported r) = none
 -- no state twice
 abbrev pub Once : List State → Type 0
 Once [] = Unit {0}
-Once (x ∷ xs) = All (λ y. y ≢ x) xs × Once xs
+Once (x ∷ xs) = AllByRecursion (λ y. y ≢ x) xs × Once xs
 
 -- the image of the state that stands
 abbrev pub standing_image : Subject → History → Image

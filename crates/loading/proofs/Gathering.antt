@@ -1,6 +1,6 @@
 -- Entry after entry into a trace.
 use Rattle.std.proofs.Common.{◌≡◌, ℕ, ◌+◌, ◌-◌, ◌*◌, ◌/◌, ◌<◌, ◌≤◌, Bool, true, false, ◌⊎◌, List, [], ◌∷◌, ◌++◌, map, length, get_or, drop, Some, None, Ok, Err, vec_items, Option, Result, sym, refl, ap, ◌∙◌, subst, inl, inr, append_assoc, append-nil, arith}
-use Rattle.std.specs.List.{range_with_len, AllByRecursion as All}
+use Rattle.std.specs.List.{range_with_len, AllByRecursion}
 use Rattle.std.proofs.lemmas.List.{ext_get_or, get_or_append_left, get_or-append_right, length-append, map-append, map_push}
 use Rattle.std.proofs.lemmas.List.FromFn.{length-map-range_with_len, get_or-map-range_with_len}
 use Rattle.std.proofs.ByRecursion.{All-push}
@@ -38,7 +38,7 @@ same_contents xs ys (Data from) n h = same_map (λ i. get_or (xs ++ ys) (from + 
 same_effect : (xs ys : List Sector) (s : Step) → LiesIn (length xs) s → step_effect (xs ++ ys) s ≡ step_effect xs s
 same_effect xs ys s h = ap (λ c. record { flush = s.flush; fua = s.fua; first = s.first; contents = c }) (same_contents xs ys s.source s.sectors h)
 
-same_effects : (xs ys : List Sector) (ss : List Step) → All (LiesIn (length xs)) ss → map (step_effect (xs ++ ys)) ss ≡ map (step_effect xs) ss
+same_effects : (xs ys : List Sector) (ss : List Step) → AllByRecursion (LiesIn (length xs)) ss → map (step_effect (xs ++ ys)) ss ≡ map (step_effect xs) ss
 same_effects xs ys [] h = refl
 same_effects xs ys (s ∷ ss) h = ap (λ e. e ∷ map (step_effect (xs ++ ys)) ss) (same_effect xs ys s h.0) ∙ ap (λ es. step_effect xs s ∷ es) (same_effects xs ys ss h.1)
 
@@ -75,7 +75,7 @@ wider : (n k : ℕ) → n ≤ k → (s : Source) (m : ℕ) → InSource s m n �
 wider n k h Zeros m l = tt
 wider n k h (Data from) m l = omega arith
 
-all_wider : (n k : ℕ) → n ≤ k → (ss : List Step) → All (LiesIn n) ss → All (LiesIn k) ss
+all_wider : (n k : ℕ) → n ≤ k → (ss : List Step) → AllByRecursion (LiesIn n) ss → AllByRecursion (LiesIn k) ss
 all_wider n k h [] a = tt
 all_wider n k h (s ∷ ss) a = (wider n k h s.source s.sectors a.0, all_wider n k h ss a.1)
 
@@ -103,15 +103,15 @@ means_more t u items e m x =
           ∙ ap (λ q. map mark_in items ++ q ∷ []) (new_mark e (mark_in e) (length xs))
           ∙ sym (map_push mark_in items e);
       bounded =
-          let P : List Sector → Type 0 = λ q. All (LiesIn (length q)) (vec_items u.steps) in
-          let Q : List Step → Type 0 = λ q. All (LiesIn (length (xs ++ ys))) q in
+          let P : List Sector → Type 0 = λ q. AllByRecursion (LiesIn (length q)) (vec_items u.steps) in
+          let Q : List Step → Type 0 = λ q. AllByRecursion (LiesIn (length (xs ++ ys))) q in
           subst P (sym x.sectors) (subst Q (sym x.steps) (All-push (LiesIn (length (xs ++ ys))) ss step (all_wider (length xs) (length (xs ++ ys)) grown ss m.bounded) (new_within xs e (mark_in e))));
     }
 
 pub means_none : (t : Trace) → vec_items t.steps ≡ [] → Means t []
 unfolding effects_of marks_of
 means_none t e =
-    let P : List Step → Type 0 = λ q. All (LiesIn (length (vec_items t.sectors))) q in
+    let P : List Step → Type 0 = λ q. AllByRecursion (LiesIn (length (vec_items t.sectors))) q in
     record { effects = ap (map (step_effect (vec_items t.sectors))) e; marks = ap (map (λ s. s.mark)) e; bounded = subst P (sym e) tt }
 
 -- ON THE WAY. Entries read so far, before those that are left.

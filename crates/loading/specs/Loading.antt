@@ -1,6 +1,6 @@
 -- What the reading of a recording into memory answers.
 use Rattle.std.specs.Prelude.{◌≡◌, ℕ, ◌+◌, ◌/◌, ◌≤◌, Bool, true, false, ◌⊎◌, List, [], ◌∷◌, ◌++◌, map, length, drop, Some, None, Ok, Err, vec_items, Option, Result}
-use Rattle.std.specs.List.{range_with_len, AllByRecursion as All}
+use Rattle.std.specs.List.{range_with_len, AllByRecursion}
 use Rattle.image.specs.Sectors.{Sector, sector_at}
 use Rattle.mark.specs.declared.mark.Mark.{Mark}
 use Rattle.recording.specs.declared.refusal.Refusal as R
@@ -52,7 +52,7 @@ LiesIn n step = InSource step.source step.sectors n
 pub record Means (t : Trace) (items : List Item) : Type 0 where
   pub effects : effects_of t ≡ map effect_of items
   pub marks : marks_of t ≡ map mark_in items
-  pub bounded : All (LiesIn (length (vec_items t.sectors))) (vec_items t.steps)
+  pub bounded : AllByRecursion (LiesIn (length (vec_items t.sectors))) (vec_items t.steps)
 
 -- why the bytes are declined: for the head, else for an entry or the end
 abbrev pub of_entries : Result (List Item) (ℕ × ℕ) → Option (ℕ × ℕ)

@@ -1,6 +1,6 @@
 -- A whole recording against its layout.
 use Rattle.std.proofs.Common.{◌≡◌, ℕ, zero, suc, ◌+◌, ◌*◌, ◌≤◌, false, cond, ltb, List, [], ◌∷◌, ◌++◌, length, drop, Some, None, Ok, Err, Option, Result, sym, refl, ap, ◌∙◌, subst, inl, inr, arith}
-use Rattle.std.specs.List.{AllByRecursion as All}
+use Rattle.std.specs.List.{AllByRecursion}
 use Rattle.std.proofs.lemmas.Bool.{cases_Bool, cases_lt, le-ltb, lt-ltb}
 use Rattle.std.proofs.lemmas.List.{nil_from_length}
 use Rattle.image.specs.Sectors.{Bytes}
@@ -50,12 +50,12 @@ prepended : (e : Item) (r : Result (List Item) Refusal) (es : List Item) → pre
 prepended e (Ok fs) es q = (fs, refl, cc)
 prepended e (Err f) es q = absurd (let z : ◌≡◌ {A = ℕ} 0 1 = cc in omega arith)
 
-pub from_taken : (n k : ℕ) (x : List ℕ) (es : List Item) → Bytes x → recorded_from n k x ≡ Ok es → (length es ≡ n) × All Formed es × (x ≡ entries_layout es)
+pub from_taken : (n k : ℕ) (x : List ℕ) (es : List Item) → Bytes x → recorded_from n k x ≡ Ok es → (length es ≡ n) × AllByRecursion Formed es × (x ≡ entries_layout es)
 unfolding recorded_from
 from_taken zero k x es bs e =
     let p = no_reason (end_fault x) (Ok []) es e in
     let q : es ≡ [] = let w = p.1 in cc in
-    let P : List Item → Type 0 = λ fs. (length fs ≡ 0) × All Formed fs × (x ≡ entries_layout fs) in
+    let P : List Item → Type 0 = λ fs. (length fs ≡ 0) × AllByRecursion Formed fs × (x ≡ entries_layout fs) in
     subst P (sym q) (refl, tt, at_end x p.0)
 from_taken (suc n) k x es bs e =
     let p = no_reason (entry_fault k x) (prepend (item_in x) (recorded_from n (k + 1) (rest_of x))) es e in
@@ -64,7 +64,7 @@ from_taken (suc n) k x es bs e =
     let m = well_formed k x h.0 in
     let r = prepended (item_in x) (recorded_from n (k + 1) (rest_of x)) es p.1 in
     let i = from_taken n (k + 1) (rest_of x) r.0 (bytes_drop (512 + 512 * data_in x) x bs) r.1 in
-    let P : List Item → Type 0 = λ fs. (length fs ≡ suc n) × All Formed fs × (x ≡ entries_layout fs) in
+    let P : List Item → Type 0 = λ fs. (length fs ≡ suc n) × AllByRecursion Formed fs × (x ≡ entries_layout fs) in
     subst P (sym r.2) (
       ap suc i.0,
       (taken_formed x bs w m h.1, i.1),
@@ -72,7 +72,7 @@ from_taken (suc n) k x es bs e =
     )
 
 -- entries that are laid out are taken
-pub from_given : (es : List Item) (k : ℕ) → All Formed es → recorded_from (length es) k (entries_layout es) ≡ Ok es
+pub from_given : (es : List Item) (k : ℕ) → AllByRecursion Formed es → recorded_from (length es) k (entries_layout es) ≡ Ok es
 unfolding recorded_from
 from_given [] k a = refl
 from_given (e ∷ es) k a =

@@ -1,6 +1,6 @@
 -- The layout of a recording: from the entries to the bytes.
 use Rattle.std.specs.Prelude.{ℕ, ◌-◌, ◌≤◌, List, [], ◌∷◌, ◌++◌, length, replicate, codes}
-use Rattle.std.specs.List.{AllByRecursion as All}
+use Rattle.std.specs.List.{AllByRecursion}
 use Rattle.recording.specs.Numbers.{field}
 use Rattle.recording.specs.Items.{Item, sector_of, sectors_of, bits_of, text_of, data_of, Formed}
 
@@ -30,4 +30,4 @@ layout es = head_layout (length es) ++ entries_layout es
 
 -- entries that a recording may have: each within the rules, and 256 at most
 abbrev pub Within : List Item → Type 0
-Within es = (length es ≤ 256) × All Formed es
+Within es = (length es ≤ 256) × AllByRecursion Formed es
