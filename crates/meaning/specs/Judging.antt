@@ -1,14 +1,14 @@
 -- The judgement of a tree says what it stands for.
-use Rattle.std.specs.Prelude.{◌≡◌, ℕ, zero, suc, ◌<◌, ◌≤◌, Bool, true, false, cond, ◌&&◌, ◌||◌, ◌⊎◌, ◌↔◌, List, [], ◌∷◌, length, ◌==◌, slice_index_or, refl}
+use Rattle.std.specs.Prelude.{◌≡◌, ℕ, zero, suc, true, cond, ◌&&◌, List, [], ◌∷◌, ◌==◌, slice_index_or, refl}
 use Rattle.std.proofs.Common.{sym, ap, subst, ◌∙◌, inl, inr, arith}
 use Rattle.std.specs.List.{ContainsAt as Has}
 use Rattle.std.proofs.lemmas.Bool.{cases_lt, and_parts, and_from, or_cases, or_left, or_right, eqb-true, eq-eqb, lt-ltb, le-ltb, both_ways, false≢true}
 use Rattle.tree.specs.declared.node.Node.{Node}
 use Rattle.tree.specs.declared.node.Node.TheVariants.{Absent, Directory, File}
 use Rattle.filesystem.specs.Outcomes.{Outcome, a_tree, a_fault}
-use Rattle.filesystem.specs.Least.{first_failing, First, first_failing_lem}
+use Rattle.filesystem.specs.Least.{first_failing, first_failing_lem}
 use Rattle.crash.specs.Lists.{◌∈◌}
-use Rattle.law.specs.Subject.{Recording, NodeAdmitted, Admitted, Lowest, Judges}
+use Rattle.law.specs.Subject.{Recording, NodeAdmitted, Lowest, Judges}
 use Rattle.meaning.specs.Judgements.{same_node, is_among, is_fine, judged_at, judgement}
 
 -- a list has what stands in it

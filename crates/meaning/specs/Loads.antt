@@ -1,5 +1,5 @@
 -- What load makes of a recording's bytes: the first condition that holds, in the ruled order, else the meaning.
-use Rattle.std.specs.Prelude.{ℕ, zero, suc, ◌+◌, Bool, true, false, cond, not, ◌&&◌, ◌||◌, ltb, List, [], ◌∷◌, length, drop, is_some, Some, None, Ok, Err, Option, Result, nat_lt}
+use Rattle.std.specs.Prelude.{ℕ, zero, suc, ◌+◌, Bool, cond, not, ◌&&◌, ◌||◌, ltb, List, [], ◌∷◌, length, drop, is_some, Some, None, Ok, Err, Option, Result, nat_lt}
 use Rattle.std.specs.List.{range_with_len}
 use Rattle.image.specs.Sectors.{Image}
 use Rattle.tree.specs.declared.node.Node.{Node}
@@ -11,7 +11,6 @@ use Rattle.recording.specs.Heads.{count_in}
 use Rattle.recording.specs.Entries.{sector_in, sectors_in, bits_in, text_in, sector_cut, malformed, data_in, data_cut, item_in, rest_of}
 use Rattle.recording.specs.Reading.{open_fault}
 use Rattle.filesystem.specs.Outcomes.{Outcome, a_tree, a_fault}
-use Rattle.crash.specs.Rules as C
 use Rattle.crash.specs.States.{some_below, numbers, states}
 use Rattle.law.specs.Subject.{Loading, takes, declines}
 use Rattle.meaning.specs.Meanings.{writes_of, values_of, meaning_of}

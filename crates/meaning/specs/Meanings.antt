@@ -1,5 +1,5 @@
 -- What a recording means over a base, from which a tree is recovered.
-use Rattle.std.specs.Prelude.{ℕ, List, [], map, length, slice_index_or}
+use Rattle.std.specs.Prelude.{ℕ, List, map, length, slice_index_or}
 use Rattle.std.specs.Option.{unwrap_or}
 use Rattle.image.specs.Sectors.{Image}
 use Rattle.tree.specs.declared.node.Node.{Node}

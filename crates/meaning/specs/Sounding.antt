@@ -1,11 +1,11 @@
 -- What load takes hangs together: its states are the permitted images, and its judgements say what they stand for.
-use Rattle.std.specs.Prelude.{◌≡◌, ℕ, ◌+◌, ◌<◌, ◌≤◌, Bool, true, false, cond, ◌⊎◌, ◌↔◌, List, [], length, drop, Some, None, Ok, Err, Option, Result, ◌≢◌, nat_lt, slice_index_or}
+use Rattle.std.specs.Prelude.{◌≡◌, ℕ, ◌+◌, cond, List, [], length, drop, Some, None, Ok, Err, Option, Result, ◌≢◌, nat_lt, slice_index_or}
 use Rattle.std.proofs.Math.Path.{refl}
 use Rattle.std.proofs.Common.{sym, ap, subst, ◌∙◌, arith}
 use Rattle.std.proofs.Math.Logic.{inl, inr}
-use Rattle.std.specs.List.{range_with_len, ContainsAt as Has}
+use Rattle.std.specs.List.{range_with_len}
 use Rattle.std.proofs.lemmas.Bool.{cases_Bool}
-use Rattle.image.specs.Sectors.{Image, Sector}
+use Rattle.image.specs.Sectors.{Image}
 use Rattle.tree.specs.declared.node.Node.{Node}
 use Rattle.recording.specs.declared.refusal.Refusal.{Refusal}
 use Rattle.recording.specs.Refusals.{code_of}
@@ -14,11 +14,10 @@ use Rattle.recording.specs.Heads.{count_in}
 use Rattle.recording.specs.Reading.{open_fault}
 use Rattle.filesystem.specs.Outcomes.{Outcome, a_tree, a_fault}
 use Rattle.crash.specs.Rules as C
-use Rattle.crash.specs.Lists.{◌∈◌}
 use Rattle.crash.specs.States.{candidates, states}
 use Rattle.crash.proofs.Stating.{in_states, states_in, states_some}
 use Rattle.crash.proofs.Numbering.{in_candidates, candidates_in}
-use Rattle.law.specs.Subject.{Recording, Permitted, Sound, Loading, takes, declines}
+use Rattle.law.specs.Subject.{Recording, Permitted, Sound, takes, declines}
 use Rattle.meaning.specs.Meanings.{writes_of, meaning_of}
 use Rattle.meaning.specs.Loads.{entries_from, by_points, by_entries, by_head, by_base, load_of, first_fault, point_fault}
 use Rattle.meaning.specs.Judging.{has_in, in_has, judges}

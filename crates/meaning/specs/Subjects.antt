@@ -1,9 +1,9 @@
 -- The subject of a run: a base, a file system's least count and outcome, and what load makes of recordings over them.
-use Rattle.std.specs.Prelude.{◌≡◌, ℕ, ◌≤◌, ◌↔◌, List}
+use Rattle.std.specs.Prelude.{◌≡◌, ℕ, ◌↔◌, List}
 use Rattle.image.specs.Sectors.{Image}
 use Rattle.tree.specs.declared.node.Node.{Node}
 use Rattle.recording.specs.Items.{Item}
-use Rattle.filesystem.specs.Outcomes.{Outcome, a_tree}
+use Rattle.filesystem.specs.Outcomes.{Outcome}
 use Rattle.crash.specs.Rules as C
 use Rattle.crash.specs.Nodes as N
 use Rattle.law.specs.Subject.{Subject, Recording, Permitted, Admitted, takes}
