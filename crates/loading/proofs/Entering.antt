@@ -1,7 +1,7 @@
 -- One entry at the front of what is left: what is asked of it, in order, and what is read.
-use Rattle.std.proofs.Common.{◌≡◌, ℕ, zero, suc, ◌+◌, ◌-◌, ◌*◌, ◌/◌, ◌<◌, ◌≤◌, Bool, true, false, cond, not, ◌&&◌, eqb, ltb, ◌⊎◌, List, [], ◌∷◌, length, take, drop, is_some, Some, None, Ok, Err, Option, Result, unwrap_or, sym, refl, ap, ◌∙◌, subst, inl, inr, arith}
+use Rattle.std.proofs.Common.{◌≡◌, ℕ, zero, suc, ◌+◌, ◌-◌, ◌*◌, ◌/◌, ◌<◌, ◌≤◌, Bool, true, false, cond, not, ◌&&◌, eqb, ltb, List, [], length, drop, is_some, Some, None, Ok, Err, Option, Result, unwrap_or, sym, refl, ap, ◌∙◌, inl, inr, arith}
 use Rattle.std.specs.List.{between}
-use Rattle.std.proofs.lemmas.Bool.{cases_lt, cases_Bool, cases_eq, lt-ltb, le-ltb, ltb-false, ne_eqb, eq-eqb, eqb-true, and_cases, both_ways, or_parts}
+use Rattle.std.proofs.lemmas.Bool.{cases_Bool, cases_eq, le-ltb, ltb-false, ne_eqb, eq-eqb, eqb-true, and_cases, or_parts}
 use Rattle.std.proofs.lemmas.List.{drop-drop, length-take-le, length-drop}
 use Rattle.image.specs.Layers.{has}
 use Rattle.mark.specs.declared.mark.Mark.{Mark}
@@ -15,7 +15,7 @@ use Rattle.recording.specs.declared.entry.Reader.{Reader}
 use Rattle.recording.specs.Refusals as RC
 use Rattle.recording.specs.Numbers.{all_zero}
 use Rattle.recording.specs.Items.{Item, write, discard, flush, mark, flags_of, sectors_of, data_of}
-use Rattle.recording.specs.Entries.{sector_in, sectors_in, bits_in, size_in, text_in, fields_flawed, sector_cut, malformed, data_in, data_cut, item_of, item_in, rest_of}
+use Rattle.recording.specs.Entries.{sector_in, sectors_in, bits_in, size_in, text_in, fields_flawed, sector_cut, malformed, data_in, data_cut, item_in, rest_of}
 use Rattle.recording.specs.Reading.{ahead, next_number, HeaderAt, sector_fault, entry_fault, end_fault, reader_fault, moved, or_else}
 use Rattle.recording.proofs.Made.{whole_sector}
 use Rattle.recording.proofs.Deciding.{well_formed}
@@ -23,9 +23,9 @@ use Rattle.recording.proofs.Flagging.{Kept, fields_kept}
 use Rattle.meaning.specs.Meanings.{mark_in}
 use Rattle.meaning.specs.Loads.{entries_from, onwards, unmarked, outside_in}
 use Rattle.loading.specs.declared.refusal.Refusal.{Refusal}
-use Rattle.loading.specs.declared.refusal.Refusal.TheVariants.{Recording, NoMark, Outside, TooMuchData, Memory}
+use Rattle.loading.specs.declared.refusal.Refusal.TheVariants.{NoMark, Outside, TooMuchData}
 use Rattle.loading.specs.Asking.{mark_by, with_mark, asked, answered}
-use Rattle.loading.specs.Loading.{code_of, of_entries, IsOfMemory, remaining}
+use Rattle.loading.specs.Loading.{code_of, of_entries, remaining}
 
 abbrev Res : Type 0
 Res = Result (List Item) (ℕ × ℕ)

@@ -1,18 +1,17 @@
 -- Entry after entry into a trace.
-use Rattle.std.proofs.Common.{◌≡◌, ℕ, ◌+◌, ◌-◌, ◌*◌, ◌/◌, ◌<◌, ◌≤◌, Bool, true, false, ◌⊎◌, List, [], ◌∷◌, ◌++◌, map, length, get_or, drop, Some, None, Ok, Err, vec_items, Option, Result, sym, refl, ap, ◌∙◌, subst, inl, inr, append_assoc, append-nil, arith}
+use Rattle.std.proofs.Common.{◌≡◌, ℕ, ◌+◌, ◌-◌, ◌/◌, ◌<◌, ◌≤◌, ◌⊎◌, List, [], ◌∷◌, ◌++◌, map, length, get_or, drop, Some, None, Ok, Err, vec_items, Result, sym, refl, ap, ◌∙◌, subst, inl, inr, append_assoc, append-nil, arith}
 use Rattle.std.specs.List.{range_with_len, AllByRecursion}
-use Rattle.std.proofs.lemmas.List.{ext_get_or, get_or_append_left, get_or-append_right, length-append, map-append, map_push}
+use Rattle.std.proofs.lemmas.List.{ext_get_or, get_or_append_left, get_or-append_right, length-append, map_push}
 use Rattle.std.proofs.lemmas.List.FromFn.{length-map-range_with_len, get_or-map-range_with_len}
 use Rattle.std.proofs.ByRecursion.{All-push}
 use Rattle.image.specs.Sectors.{Sector, sector_at}
 use Rattle.mark.specs.declared.mark.Mark.{Mark}
 use Rattle.recording.specs.declared.entry.Reader.{Reader}
 use Rattle.recording.specs.declared.refusal.Refusal as R
-use Rattle.recording.specs.Refusals as RC
 use Rattle.recording.specs.Items.{Item, write, discard, flush, mark, data_of}
 use Rattle.recording.specs.Heads.{count_in}
 use Rattle.recording.specs.Reading.{open_fault, ahead, next_number, Opening}
-use Rattle.crash.specs.Effects.{Effect, effect_of, zeros}
+use Rattle.crash.specs.Effects.{effect_of}
 use Rattle.trace.specs.declared.steps.Source.{Source}
 use Rattle.trace.specs.declared.steps.Source.TheVariants.{Zeros, Data}
 use Rattle.trace.specs.declared.steps.Step.{Step}

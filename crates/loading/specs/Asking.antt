@@ -1,15 +1,12 @@
 -- What is asked of an entry between its form and its data, and what is answered.
-use Rattle.std.specs.Prelude.{◌≡◌, ℕ, ◌+◌, Bool, cond, not, ◌&&◌, List, is_some, Some, None, Ok, Err, Option, Result, nat_lt}
-use Rattle.std.specs.Option.{unwrap_or}
+use Rattle.std.specs.Prelude.{ℕ, ◌+◌, Bool, cond, ◌&&◌, List, Some, None, Ok, Err, Option, Result, nat_lt}
 use Rattle.mark.specs.declared.mark.Mark.{Mark}
 use Rattle.mark.specs.declared.mark.Mark.TheVariants.{Comment}
 use Rattle.mark.specs.Found.{mark_of}
 use Rattle.recording.specs.declared.entry.Flags.{Flags}
 use Rattle.recording.specs.declared.entry.Header.{Header}
-use Rattle.recording.specs.Items.{flags_of}
-use Rattle.recording.specs.Entries.{sector_in, sectors_in, bits_in, text_in}
 use Rattle.loading.specs.declared.refusal.Refusal.{Refusal}
-use Rattle.loading.specs.declared.refusal.Refusal.TheVariants.{Recording, NoMark, Outside, TooMuchData, Memory}
+use Rattle.loading.specs.declared.refusal.Refusal.TheVariants.{NoMark, Outside, TooMuchData}
 
 -- the mark that a text has, if the entry is a mark; else a comment
 abbrev pub mark_by : Bool → List ℕ → Option Mark

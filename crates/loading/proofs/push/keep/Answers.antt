@@ -1,5 +1,5 @@
 -- One sector more is kept in each turn.
-use Rattle.std.proofs.Common.{◌≡◌, ℕ, ◌+◌, ◌/◌, List, [], ◌∷◌, ◌++◌, map, length, vec_items, sym, ap, ◌∙◌, append_assoc, append-nil, arith}
+use Rattle.std.proofs.Common.{◌≡◌, ◌/◌, [], ◌∷◌, ◌++◌, map, length, vec_items, sym, ap, ◌∙◌, append_assoc, append-nil, arith}
 use Rattle.std.specs.List.{range_with_len}
 use Rattle.std.proofs.lemmas.List.FromFn.{map-range_with_len_more}
 use Rattle.image.specs.Sectors.{sector_at}
@@ -13,9 +13,9 @@ loop-i-preserved c =
     let old = vec_items c.args.sectors.now in
     let row = c.args.row.now in
     let i = c.loop-i.i in
-    c.in-ok-push.ensures.items
-    ∙ ap (λ xs. xs ++ c.sector-of.result ∷ []) c.loop-i.invariant
-    ∙ ap (λ x. (old ++ map (sector_at row) (range_with_len 0 i)) ++ x ∷ []) c.sector-of.ensures
+    c.in_ok-push.ensures.items
+    ∙ ap (λ xs. xs ++ c.sector_of.result ∷ []) c.loop-i.invariant
+    ∙ ap (λ x. (old ++ map (sector_at row) (range_with_len 0 i)) ++ x ∷ []) c.sector_of.ensures
     ∙ append_assoc old (map (sector_at row) (range_with_len 0 i)) (sector_at row i ∷ [])
     ∙ ap (λ xs. old ++ xs) (sym (map-range_with_len_more (sector_at row) 0 i i (omega arith)))
 

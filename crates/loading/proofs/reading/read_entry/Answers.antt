@@ -1,11 +1,10 @@
 -- One entry read is one step of what is left.
-use Rattle.std.proofs.Common.{◌≡◌, ℕ, ◌+◌, ◌-◌, ◌*◌, ◌/◌, ◌<◌, ◌≤◌, List, [], ◌∷◌, ◌++◌, length, Ok, Err, vec_items, Option, sym, refl, ap, ◌∙◌, subst, inl, inr, arith}
+use Rattle.std.proofs.Common.{◌≡◌, ◌+◌, ◌-◌, ◌*◌, ◌/◌, [], ◌∷◌, ◌++◌, length, Ok, vec_items, Option, sym, refl, ap, ◌∙◌, subst, inr, arith}
 use Rattle.std.proofs.lemmas.List.{length-append}
 use Rattle.std.proofs.lemmas.List.FromFn.{length-map-range_with_len}
 use Rattle.image.specs.Sectors.{sector_at}
 use Rattle.recording.specs.declared.entry.Entry.{Entry}
 use Rattle.recording.specs.declared.entry.Header.{Header}
-use Rattle.recording.specs.declared.entry.Reader.{Reader}
 use Rattle.recording.specs.Items.{sectors_of, data_of}
 use Rattle.recording.specs.Entries.{data_in, item_in}
 use Rattle.recording.specs.Reading.{ahead, next_number, item_seen, moved, Heading, Stepping}
@@ -19,11 +18,11 @@ use Rattle.loading.proofs.reading.read_entry.Goals as goal
 pub returns-in-Err : goal.returns-in-Err
 returns-in-Err c = inr (header_declined c.args.reader.now (used_by c.args.trace.now) c.args.count c.in-Err.refusal c.in-Err.ensures)
 
-pub returns-in-default : goal.returns-in-default
-returns-in-default c =
+pub returns-in_default : goal.returns-in_default
+returns-in_default c =
     let r = c.args.reader.now in
     let P : Option Header → Type 0 = λ o. Heading r (Ok o) in
-    let e = subst P c.in-default.is c.in-Ok.ensures in
+    let e = subst P c.in_default.is c.in-Ok.ensures in
     (read_end r (used_by c.args.trace.now) c.args.count e.0 e.1, refl)
 
 pub returns-in-Err-ask : goal.returns-in-Err-ask
@@ -47,8 +46,8 @@ returns-in-Err-next c =
     (c.in-Ok-ask.ensures ∙ ap (λ n. answered c.in-Some.header ((c.total.result - c.left.result) + 1) n c.args.count) u) in
     inr (next_declined r (used_by c.args.trace.now) c.args.count c.in-Ok-ask.mark c.in-Err-next.refusal h.0 h.1 a c.in-Err-next.ensures.step.0)
 
-pub push-entry-requires : goal.push-entry-requires
-push-entry-requires c =
+pub push_entry-requires : goal.push_entry-requires
+push_entry-requires c =
     let r = c.args.reader.now in
     let x = ahead r in
     let P : Option Header → Type 0 = λ o. Heading r (Ok o) in
@@ -60,13 +59,13 @@ push-entry-requires c =
     let s : sectors_of (item_seen c.in-Some-taken.entry) ≡ sectors_of (item_in x) = ap sectors_of t.2 in
     record { few = omega arith; less = let w = c.requires.few in omega arith }
 
-pub returns-in-Ok-push-entry : goal.returns-in-Ok-push-entry
-returns-in-Ok-push-entry c =
+pub returns-in-Ok-push_entry : goal.returns-in-Ok-push_entry
+returns-in-Ok-push_entry c =
     let r = c.args.reader.now in
     let s = c.next.new.self in
     let x = ahead r in
     let old = c.args.trace.now in
-    let new = c.push-entry.new.trace in
+    let new = c.push_entry.new.trace in
     let e = item_seen c.in-Some-taken.entry in
     let m = c.in-Ok-ask.mark in
     let count = c.args.count in
@@ -82,7 +81,7 @@ returns-in-Ok-push-entry c =
     let whole = is_complete r h.0 h.1 t.1 in
     let size : length (data_of e) ≡ 512 * data_in x = ap (λ i. length (data_of i)) t.2 ∙ data_length x (next_number r) h.1 whole in
     let more : length (whole_sectors (data_of e)) ≡ data_in x = length-map-range_with_len (sector_at (data_of e)) 0 (length (data_of e) / 512) ∙ omega arith in
-    let sectors = c.in-Ok-push-entry.ensures.sectors in
+    let sectors = c.in-Ok-push_entry.ensures.sectors in
     let n : used_by new ≡ used_by old + data_in x = ap length sectors ∙ length-append (vec_items old.sectors) (whole_sectors (data_of e)) ∙ ap (λ i. used_by old + i) more in
     let mk : m ≡ mark_in e = mark_read x (used_by old) count m acc ∙ ap mark_in (sym t.2) in
     let left : s.left ≡ r.left - 1 = ap (λ z. z.left) t.4 in
@@ -95,7 +94,7 @@ returns-in-Ok-push-entry c =
           ∙ ap (λ i. onwards i (remaining (moved r) (used_by old + data_in x) count)) (sym t.2)
           ∙ ap (λ z. onwards e (remaining z (used_by old + data_in x) count)) (sym t.4)
           ∙ ap (λ i. onwards e (remaining s i count)) (sym n),
-      record { steps = c.in-Ok-push-entry.ensures.steps ∙ ap (λ z. vec_items old.steps ++ step_of e z (used_by old) ∷ []) mk; sectors = sectors },
+      record { steps = c.in-Ok-push_entry.ensures.steps ∙ ap (λ z. vec_items old.steps ++ step_of e z (used_by old) ∷ []) mk; sectors = sectors },
       omega arith,
       omega arith,
       omega arith,
