@@ -1,7 +1,6 @@
 //! Recordings at the edges of the limits of crash points. There is nothing here but tests.
 #![tactic(auto)]
 
-
 #[cfg(test)]
 mod tables {
     use candidates::{candidates_of, node_values};
@@ -297,7 +296,7 @@ mod tables {
         let Ok(few) = candidates_of(&trace, &flat, 5, 4) else {
             return Err(Fail::new("declined"));
         };
-        assert!(rt; few.values() == &[0, 1, 2]);
+        assert!(rt; few.values() == [0, 1, 2].as_slice());
         assert!(rt; candidates_of(&trace, &flat, 8, 4).is_err());
         let Ok(nodes) = node_values(&trace, Node::Absent, 1, 4) else {
             return Err(Fail::new("declined"));

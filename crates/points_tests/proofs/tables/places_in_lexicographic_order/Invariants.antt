@@ -2,4 +2,4 @@ use Rattle.std.proofs.Common.{◌≡◌, length}
 use Rattle.points_tests.proofs.tables.places_in_lexicographic_order.Given as goal
 
 abbrev pub invariant-loop-i : goal.invariant-loop-i
-invariant-loop-i l = length l.places ≡ 3
+invariant-loop-i g l = length l.places ≡ 3
