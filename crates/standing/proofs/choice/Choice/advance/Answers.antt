@@ -15,7 +15,7 @@ returns-in-Some g c =
       stays = λ e. let z : ◌≡◌ {A = ℕ} 0 1 = cc in absurd (omega arith);
       onward =
           on_over (sectors state.below) (shown sectors state) (shown sectors c.rewrite.new.state) c.args.trace.now before
-          (record { numbers = before.numbers; counts = before.counts; places = c.move-on.new.places }) c.count-count.result c.count-count.ensures.number c.in-Some.first c.count-count.ensures.shaped refl refl c.in-Some.ensures c.rewrite.ensures.image;
+          (record { numbers = before.numbers; counts = before.counts; places = c.move_on.new.places }) c.count-count.result c.count-count.ensures.number c.in-Some.first c.count-count.ensures.shaped refl refl c.in-Some.ensures c.rewrite.ensures.image;
     }
 
 pub returns-in-None : goal.returns-in-None

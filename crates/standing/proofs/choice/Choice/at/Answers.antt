@@ -8,9 +8,9 @@ pub loop-s-preserved : goal.loop-s-preserved
 loop-s-preserved g c =
     let d = recording_of (g.S.ImageStore.sectors c.args.base.now) c.args.trace.now in
     let found = c.in-Ok.ensures in
-    let cells = c.into-cells-count.ensures in
+    let cells = c.into_cells-count.ensures in
     let inside : c.loop-s.s < 64 = omega (arith, c.loop-s-test.true, c.count-s-end.ensures.few) in
-    listed_more d c.args.point c.loop-s.s c.loop-s.choice c.list.new.self c.into-cells-count.result.0 (listed c.in-Ok.few) c.into-cells-count.result.1 c.loop-s.invariant inside c.list.ensures.numbers c.list.ensures.counts c.list.ensures.places cells.values found.2 cells.size cells.few found.1
+    listed_more d c.args.point c.loop-s.s c.loop-s.choice c.list.new.self c.into_cells-count.result.0 (listed c.in-Ok.few) c.into_cells-count.result.1 c.loop-s.invariant inside c.list.ensures.numbers c.list.ensures.counts c.list.ensures.places cells.values found.2 cells.size cells.few found.1
 
 pub returns : goal.returns
 returns g c =
