@@ -11,6 +11,7 @@ use journalled::Journalled;
 use plain::Plain;
 use recovery::recover_apart;
 use show::show_outcome;
+use std::process::ExitCode;
 use tree::Tree;
 
 const HELP: &str = "recover FILESYSTEM IMAGE OUT
@@ -92,6 +93,10 @@ fn run(rt: &HostRuntime) -> Result<(), Failed> {
     recover_named(rt, words[0].as_str(), words[1].as_str(), words[2].as_str())
 }
 
-fn main(rt: HostRuntime) -> Result<(), Failed> {
-    finish(&rt, "recover", run(&rt))
+// An `Err` from main would be printed, and its reason stands on standard error already.
+fn main(rt: HostRuntime) -> ExitCode {
+    match finish(&rt, "recover", run(&rt)) {
+        Ok(()) => ExitCode::SUCCESS,
+        Err(_) => ExitCode::FAILURE,
+    }
 }

@@ -7,6 +7,7 @@ use image::{Flat, Overlay};
 use journalled::Journalled;
 use plain::Plain;
 use recovery::{outcome_lines, recover_apart};
+use std::process::ExitCode;
 use tree::Tree;
 
 const HELP: &str = "recover_cases LIST
@@ -159,6 +160,10 @@ fn run(rt: &HostRuntime) -> Result<(), Failed> {
     }
 }
 
-fn main(rt: HostRuntime) -> Result<(), Failed> {
-    finish(&rt, "recover_cases", run(&rt))
+// An `Err` from main would be printed, and its reason stands on standard error already.
+fn main(rt: HostRuntime) -> ExitCode {
+    match finish(&rt, "recover_cases", run(&rt)) {
+        Ok(()) => ExitCode::SUCCESS,
+        Err(_) => ExitCode::FAILURE,
+    }
 }

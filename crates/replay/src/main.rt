@@ -6,6 +6,7 @@ use console::{Failed, arguments, finish, read_file, write_beside};
 use image::{Flat, ImageStore, Overlay};
 use patch::{Declined, changed_sectors, copy_image, replay_recording};
 use recording::{Entry, Reader};
+use std::process::ExitCode;
 use words::entry_words;
 
 const HELP: &str = "replay RECORDING BASE OUT
@@ -148,6 +149,10 @@ fn run(rt: &HostRuntime) -> Result<(), Failed> {
     replay_files(rt, words[0].as_str(), words[1].as_str(), words[2].as_str())
 }
 
-fn main(rt: HostRuntime) -> Result<(), Failed> {
-    finish(&rt, "replay", run(&rt))
+// An `Err` from main would be printed, and its reason stands on standard error already.
+fn main(rt: HostRuntime) -> ExitCode {
+    match finish(&rt, "replay", run(&rt)) {
+        Ok(()) => ExitCode::SUCCESS,
+        Err(_) => ExitCode::FAILURE,
+    }
 }

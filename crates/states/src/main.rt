@@ -9,6 +9,7 @@ use image::Flat;
 use loading::read_trace;
 use points::check_points;
 use report::report_points;
+use std::process::ExitCode;
 use trace::Trace;
 
 const HELP: &str = "states RECORDING BASE
@@ -83,6 +84,10 @@ fn run(rt: &HostRuntime) -> Result<(), Failed> {
     states_of_files(rt, words[0].as_str(), words[1].as_str())
 }
 
-fn main(rt: HostRuntime) -> Result<(), Failed> {
-    finish(&rt, "states", run(&rt))
+// An `Err` from main would be printed, and its reason stands on standard error already.
+fn main(rt: HostRuntime) -> ExitCode {
+    match finish(&rt, "states", run(&rt)) {
+        Ok(()) => ExitCode::SUCCESS,
+        Err(_) => ExitCode::FAILURE,
+    }
 }
