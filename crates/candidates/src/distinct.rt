@@ -4,7 +4,7 @@ ghost use Rattle.std.specs.Str.{bytes_eq};
 ghost use Rattle.crash.specs.Lists.{firsts};
 ghost use Rattle.trace.specs.Meaning.{effects_of, content_at, recording_of};
 ghost use Rattle.candidates.specs.Lists.{listed};
-ghost use Rattle.candidates.specs.Gathering.{repeated as isRepeated, Found};
+ghost use Rattle.candidates.specs.Gathering.{repeated as is_repeated_at, Found};
 
 use crate::eight::Few;
 use crate::refusal::Refusal;
@@ -21,7 +21,7 @@ fn same_bytes(x: &[u8], y: &[u8]) -> bool
 
 /// Whether the content of a number equals that of one of the numbers before it.
 fn is_repeated(trace: &Trace, base: &[u8], sector: usize, earlier: &[usize], number: usize) -> bool
-    ensures { result ≡ isRepeated (content_at base.now (effects_of trace.now) sector) earlier.now number }
+    ensures { result ≡ is_repeated_at (content_at base.now (effects_of trace.now) sector) earlier.now number }
 {
     let content = trace.content(base, sector, number);
     for k in earlier {

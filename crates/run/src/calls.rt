@@ -7,7 +7,7 @@ ghost use Rattle.progress.specs.Reports.{report_seen};
 ghost use Rattle.run.specs.Valid.{Goes, Kept, Led, Sound, base_of, subject, view};
 ghost use Rattle.run.specs.Loads.{loading_of};
 ghost use Rattle.run.specs.Events.{call_seen, event_of};
-ghost use Rattle.run.specs.Typed.{advancing, judging as foundBy, forgoing, looking};
+ghost use Rattle.run.specs.Typed.{advancing, judging as found_by, forgoing, looking};
 
 use crate::call::{Answer, Call};
 use crate::refusal::Refusal;
@@ -85,8 +85,8 @@ impl<S: ImageStore, F: FileSystem> Run<S, F> {
     /// Recovers the standing state, and judges the tree or the fault.
     pub fn judge(&mut self) -> Result<Judgement, Refusal>
         ensures kept { Kept self.old self.new }
-        ensures goes { Goes S.ImageStore.sectors F.FileSystem.least F.FileSystem.outcome self.old (foundBy result) self.new }
-        ensures went { (h : History) → Led S.ImageStore.sectors F.FileSystem.least F.FileSystem.outcome h self.old → Led S.ImageStore.sectors F.FileSystem.least F.FileSystem.outcome (then h (foundBy result)) self.new }
+        ensures goes { Goes S.ImageStore.sectors F.FileSystem.least F.FileSystem.outcome self.old (found_by result) self.new }
+        ensures went { (h : History) → Led S.ImageStore.sectors F.FileSystem.least F.FileSystem.outcome h self.old → Led S.ImageStore.sectors F.FileSystem.least F.FileSystem.outcome (then h (found_by result)) self.new }
     {
         match self.turn(Call::Judge, &[]) {
             Answer::Found(judgement) => Ok(judgement),

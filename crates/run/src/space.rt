@@ -1,7 +1,7 @@
 //! What a run explores: the recording, and the candidates of the standing point.
 ghost use Rattle.std.specs.Prelude.{◌≡◌, ℕ, ◌+◌, ◌≤◌, cond, length};
 ghost use Rattle.image.specs.Shown.{shown};
-ghost use Rattle.crash.specs.States.{states as statesAt};
+ghost use Rattle.crash.specs.States.{states as states_at};
 ghost use Rattle.trace.specs.Meaning.{recording_of, effects_of};
 ghost use Rattle.taking.specs.Taking.{Fit};
 ghost use Rattle.run.specs.Standing.{At, Laid};

@@ -1,6 +1,6 @@
 //! Which candidates a crash state takes.
 ghost use Rattle.std.specs.Prelude.{◌≡◌, ℕ, ◌<◌, replicate, slice_index, slice_set};
-ghost use Rattle.standing.specs.Places.{taken as takenAt};
+ghost use Rattle.standing.specs.Places.{taken as taken_at};
 
 use image::MOST;
 
@@ -37,7 +37,7 @@ impl Choice {
     /// The number of the candidate that a sector takes.
     pub(crate) fn taken(&self, sector: usize) -> usize
         requires { sector < 64 }
-        ensures { result ≡ takenAt self.now sector }
+        ensures { result ≡ taken_at self.now sector }
     {
         number_at(&self.numbers[sector], self.places[sector])
     }
