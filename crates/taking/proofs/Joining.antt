@@ -11,10 +11,12 @@ use Rattle.recording.specs.Heads.{count_in}
 use Rattle.recording.specs.Reading.{open_fault}
 use Rattle.filesystem.specs.Outcomes.{Outcome}
 use Rattle.crash.specs.Effects.{Effect, effect_of}
+use Rattle.crash.specs.States.{candidates, states}
 use Rattle.law.specs.Subject.{takes, declines}
 use Rattle.trace.specs.declared.steps.Trace.{Trace}
 use Rattle.trace.specs.Meaning.{effects_of, marks_of, recording_of, Whole}
-use Rattle.meaning.specs.Meanings.{mark_in, meaning_by, meaning_of}
+use Rattle.meaning.specs.Judgements.{judgement}
+use Rattle.meaning.specs.Meanings.{mark_in, writes_of, values_of, meaning_by, meaning_of}
 use Rattle.meaning.specs.Loads.{by_points, by_entries, by_head}
 use Rattle.loading.specs.declared.refusal.Refusal as L
 use Rattle.loading.specs.declared.refusal.Refusal.TheVariants.{Recording, NoMark, Outside, TooMuchData, Memory}
@@ -28,13 +30,13 @@ use Rattle.taking.proofs.Fitting.{few_told, entries_told, whole_entries}
 
 -- DECLINED BY THE HEAD OR AN ENTRY.
 module _ (outcome : Image → Outcome) (base : Image) (nodes : List Node) (bytes : List ℕ) (c : ℕ × ℕ) where
-  by_entries : (o : Result (List Item) (ℕ × ℕ)) → of_entries o ≡ Some c → by_entries outcome base nodes o ≡ declines c.0 c.1
-  by_entries (Ok items) e = absurd (let z : ◌≡◌ {A = ℕ} 0 1 = cc in omega arith)
-  by_entries (Err r) e = let q : r ≡ c = cc in ap (λ x. declines x.0 x.1) q
+  by_entries_lem : (o : Result (List Item) (ℕ × ℕ)) → of_entries o ≡ Some c → by_entries outcome base nodes o ≡ declines c.0 c.1
+  by_entries_lem (Ok items) e = absurd (let z : ◌≡◌ {A = ℕ} 0 1 = cc in omega arith)
+  by_entries_lem (Err r) e = let q : r ≡ c = cc in ap (λ x. declines x.0 x.1) q
 
   by_head_lem : (o : Option R.Refusal) → of_head o (of_entries (entries_of bytes (length base))) ≡ Some c → by_head outcome base nodes bytes o ≡ declines c.0 c.1
   by_head_lem (Some f) e = let q : RC.code_of f ≡ c = cc in ap (λ x. declines x.0 x.1) q
-  by_head_lem None e = by_entries (entries_of bytes (length base)) e
+  by_head_lem None e = by_entries_lem (entries_of bytes (length base)) e
 
 pub reading_declined : (bytes : List ℕ) (base : Image) (f : L.Refusal) → Loaded bytes (length base) (Err f) → Taken bytes base (Err (Reading f))
 reading_declined bytes base (Recording f) h = λ outcome nodes. by_head_lem outcome base nodes bytes (RC.code_of f) (open_fault bytes) h
@@ -68,9 +70,22 @@ module _ (bytes : List ℕ) (base : Image) (t : Trace) (read : Loaded bytes (len
   pub points_declined : (f : K.Refusal) → Checked (recording_of base t) (marks_of t) (Err f) → Taken bytes base (Err (Points f))
   points_declined f h = λ outcome nodes. by_points_lem outcome nodes (Err f) h
 
+  -- there are as many effects as entries
+  by_lists : (outcome : Image → Outcome) (nodes : List Node) → meaning_of outcome base nodes items ≡ meaning_by outcome base nodes (map effect_of items) (map mark_in items)
+  by_lists outcome nodes =
+      let d = writes_of base items in
+      ap (λ n. record {
+        last = n;
+        candidates = candidates d;
+        values = values_of nodes items;
+        states = states d;
+        judgement = λ p image. judgement (values_of nodes items p) (outcome image);
+      }) (sym (length-map items effect_of))
+
   same_meaning : (outcome : Image → Outcome) (nodes : List Node) → meaning_of outcome base nodes items ≡ meaning_by outcome base nodes (effects_of t) (marks_of t)
   same_meaning outcome nodes =
-      ap (λ es. meaning_by outcome base nodes es (map mark_in items)) (sym means.effects)
+      by_lists outcome nodes
+      ∙ ap (λ es. meaning_by outcome base nodes es (map mark_in items)) (sym means.effects)
       ∙ ap (meaning_by outcome base nodes (effects_of t)) (sym means.marks)
 
   length_effects : length (effects_of t) ≡ length items
