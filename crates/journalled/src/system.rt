@@ -2,7 +2,7 @@
 ghost use Rattle.std.specs.Prelude.{◌≡◌};
 ghost use Rattle.journalled.specs.Journal.{sequenced, journalled_outcome, journalled_after};
 ghost use Rattle.journalled.specs.Shapes.{after_count, after_shaped};
-ghost use Rattle.std.proofs.Common.{rules};
+ghost use Rattle.std.proofs.Common.{lit≤};
 
 use crate::replay::restore;
 use filesystem::{Fault, FileSystem, check_head, fetch, kind_of, read_tree, word_at};
@@ -39,13 +39,13 @@ impl FileSystem for Journalled {
 
     ghost after = { λ _ image. journalled_after image };
 
-    ghost low = { Prim.search rules };
+    ghost low = { lit≤ tt };
 
-    ghost high = { Prim.search rules };
+    ghost high = { lit≤ tt };
 
-    ghost count = { λ s im. after_count im };
+    ghost count = { λ s image. after_count image };
 
-    ghost shape = { λ s im h. after_shaped im h };
+    ghost shape = { λ s image shaped. after_shaped image shaped };
 
     fn floor() -> usize {
         Self::LEAST
