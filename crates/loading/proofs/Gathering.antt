@@ -1,5 +1,5 @@
 -- Entry after entry into a trace.
-use Rattle.std.proofs.Common.{◌≡◌, ℕ, ◌+◌, ◌-◌, ◌/◌, ◌<◌, ◌≤◌, ◌⊎◌, List, [], ◌∷◌, ◌++◌, map, length, get_or, drop, Some, None, Ok, Err, vec_items, Result, sym, refl, ap, ◌∙◌, subst, inl, inr, append_assoc, append-nil, arith}
+use Rattle.std.proofs.Common.{◌≡◌, ℕ, ◌+◌, ◌-◌, ◌/◌, ◌<◌, ◌≤◌, Bool, true, false, ◌⊎◌, List, [], ◌∷◌, ◌++◌, map, length, get_or, drop, Some, None, Ok, Err, vec_items, Result, sym, refl, ap, ◌∙◌, subst, inl, inr, append_assoc, append-nil, arith}
 use Rattle.std.specs.List.{range_with_len, AllByRecursion}
 use Rattle.std.proofs.lemmas.List.{ext_get_or, get_or_append_left, get_or-append_right, length-append, map_push}
 use Rattle.std.proofs.lemmas.List.FromFn.{length-map-range_with_len, get_or-map-range_with_len}
@@ -21,7 +21,7 @@ use Rattle.meaning.specs.Meanings.{mark_in}
 use Rattle.meaning.specs.Loads.{entries_from, onwards}
 use Rattle.loading.specs.declared.refusal.Refusal.{Refusal}
 use Rattle.loading.specs.declared.refusal.Refusal.TheVariants.{Recording, NoMark, Outside, TooMuchData, Memory}
-use Rattle.loading.specs.Loading.{code_of, whole_sectors, step_of, InSource, LiesIn, Means, Extends, used_by, remaining, entries_of, fault_of, of_entries, of_head, IsOfMemory, Loaded}
+use Rattle.loading.specs.Loading.{code_of, whole_sectors, step_of, InSource, LiesIn, Means, Extends, used_by, remaining, entries_of, fault_of, of_entries, of_head, IsOfMemory, Loaded, OneRead}
 
 -- two functions that agree below n make the same list
 same_map : (f g : ℕ → Sector) (n : ℕ) → ((i : ℕ) → i < n → f i ≡ g i) → map f (range_with_len 0 n) ≡ map g (range_with_len 0 n)
@@ -163,8 +163,22 @@ went s count r q t u items e m step x o f = record {
   few = f;
 }
 
+-- the same by what the reading of an entry answers: one entry more, or the end
+pub went_on : (s : List ℕ) (count : ℕ) (r q : Reader) (t u : Trace) (more : Bool) (i : (items : List Item) × Midway s count r t items) → more ≡ true → OneRead count r q t u (Ok more) → (items : List Item) × Midway s count q u items
+went_on s count r q t u more i e o =
+    let P : Bool → Type 0 = λ b. OneRead count r q t u (Ok b) in
+    let h = subst P e o in
+    (i.0 ++ h.0 ∷ [], went s count r q t u i.0 h.0 i.1 h.1 h.2 h.4 h.5)
+
 pub ended : (s : List ℕ) (count : ℕ) (r : Reader) (t : Trace) (items : List Item) → Midway s count r t items → remaining r (used_by t) count ≡ Ok [] → Loaded s count (Ok t)
 ended s count r t items m e = (items, m.opened, sym m.same ∙ ap (glue items) e ∙ ap Ok (append-nil items), m.means)
+
+pub ended_by : (s : List ℕ) (count : ℕ) (r q : Reader) (t u : Trace) (more : Bool) (i : (items : List Item) × Midway s count r t items) → more ≡ false → OneRead count r q t u (Ok more) → Loaded s count (Ok u)
+ended_by s count r q t u more i e o =
+    let P : Bool → Type 0 = λ b. OneRead count r q t u (Ok b) in
+    let h = subst P e o in
+    let Q : Trace → Type 0 = λ x. Loaded s count (Ok x) in
+    subst Q (sym h.1) (ended s count r t i.0 i.1 h.0)
 
 by_code : (s : List ℕ) (count : ℕ) (f : Refusal) → IsOfMemory f ⊎ (fault_of s count ≡ code_of f) → Loaded s count (Err f)
 by_code s count (Recording f) (inl z) = absurd z

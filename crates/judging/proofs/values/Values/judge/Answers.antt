@@ -13,7 +13,7 @@ loop-n-preserved c =
 
 pub returns-then-not-has : goal.returns-then-not-has
 returns-then-not-has c =
-    judged_low (values_in c.args.self.now) c.args.tree.now.nodes c.loop-n.n c.loop-n-test.true c.loop-n.invariant
+    judged_low (values_in c.args.self.now) c.args.tree.now.nodes c.loop-n.n (omega arith) c.loop-n.invariant
     (fine_by (values_in c.args.self.now) c.args.tree.now.nodes c.loop-n.n c.node.result false c.node.ensures c.if-not-has.ensures)
 
 pub returns : goal.returns
