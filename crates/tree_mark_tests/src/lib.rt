@@ -3,7 +3,6 @@
 
 #[cfg(test)]
 mod trees {
-    use std::process::Abort;
     use std::test::Fail;
     use tree::{Builder, Misplaced, NODES, Node, Tree, print};
 
@@ -33,16 +32,16 @@ mod trees {
     }
 
     // A directory in itself, and a file in it.
-    fn two_nodes(rt: &impl Abort) -> Builder {
+    fn two_nodes() -> Result<Builder, Fail> {
         let mut builder = Builder::new();
-        assert!(rt; builder.lay(Node::Directory { parent: 0 }).is_ok());
+        builder.lay(Node::Directory { parent: 0 })?;
         let second = Node::File {
             parent: 0,
             length: 1,
             print: 1,
         };
-        assert!(rt; builder.lay(second).is_ok());
-        builder
+        builder.lay(second)?;
+        Ok(builder)
     }
 
     #[test]
@@ -67,7 +66,7 @@ mod trees {
     }
 
     #[test]
-    fn third_node(rt: HostRuntime) {
+    fn third_node(rt: HostRuntime) -> Result<(), Fail> {
         let thirds = [
             directory(0, true),
             directory(1, false),
@@ -87,34 +86,37 @@ mod trees {
             file(255, 1, false),
         ];
         for third in thirds.iter() {
-            let mut builder = two_nodes(&rt);
+            let mut builder = two_nodes()?;
             assert_eq!(rt; builder.lay(third.node).is_ok(), third.placed);
             assert_eq!(rt; builder.laid(), if third.placed { 3 } else { 2 });
         }
+        Ok(())
     }
 
     // Lays `n` absent nodes.
-    fn lay_absent(rt: &impl Abort, builder: &mut Builder, n: usize) {
+    fn lay_absent(builder: &mut Builder, n: usize) -> Result<(), Fail> {
         for _ in 0..n {
-            assert!(rt; builder.lay(Node::Absent) == Ok(()));
+            builder.lay(Node::Absent)?;
         }
+        Ok(())
     }
 
     #[test]
-    fn an_absent_parent(rt: HostRuntime) {
-        let mut builder = two_nodes(&rt);
-        lay_absent(&rt, &mut builder, 1);
+    fn an_absent_parent(rt: HostRuntime) -> Result<(), Fail> {
+        let mut builder = two_nodes()?;
+        lay_absent(&mut builder, 1)?;
         assert!(rt; builder.lay(Node::Directory { parent: 2 }) == Err(Misplaced));
         assert!(rt; builder.lay(Node::Directory { parent: 0 }) == Ok(()));
         assert!(rt; builder.lay(Node::Directory { parent: 3 }) == Ok(()));
         assert_eq!(rt; builder.laid(), 5);
+        Ok(())
     }
 
     #[test]
     fn sixteen_nodes(rt: HostRuntime) -> Result<(), Fail> {
         assert!(rt; Builder::new().finish().is_none());
-        let mut builder = two_nodes(&rt);
-        lay_absent(&rt, &mut builder, 13);
+        let mut builder = two_nodes()?;
+        lay_absent(&mut builder, 13)?;
         assert_eq!(rt; builder.laid(), 15);
         assert!(rt; builder.finish().is_none());
         assert!(rt; builder.lay(Node::Directory { parent: 0 }) == Ok(()));
