@@ -1,4 +1,3 @@
-pub mod Fetching
 pub mod Heading
 pub mod Laying
 pub mod Telling

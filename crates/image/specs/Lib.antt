@@ -4,3 +4,4 @@ pub mod Cuts
 pub mod Access
 pub mod Layers
 pub mod Shown
+pub mod Fetched

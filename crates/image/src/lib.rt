@@ -12,7 +12,7 @@ mod store;
 pub use flat::Flat;
 pub use overlay::Overlay;
 pub use refusal::Refusal;
-pub use store::{ImageStore, copy_sector};
+pub use store::{ImageStore, copy_sector, fetch};
 
 /// The bytes of a sector.
 pub const SECTOR: usize = 512;

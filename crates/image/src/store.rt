@@ -1,7 +1,8 @@
 //! What a store of sectors is.
-ghost use Rattle.std.specs.Prelude.{◌≡◌, ℕ, ◌≤◌, max, List, [], length, is_ok, if◌then◌else◌, slice_index_or, slice_set};
+ghost use Rattle.std.specs.Prelude.{◌≡◌, ℕ, ◌<◌, ◌≤◌, max, List, [], length, is_ok, if◌then◌else◌, slice_index_or, slice_set};
 ghost use Rattle.image.specs.Sectors.{Image, Shaped};
 ghost use Rattle.image.specs.Refusals.{access};
+ghost use Rattle.image.specs.Fetched.{sector_of};
 
 use crate::SECTOR;
 use crate::refusal::Refusal;
@@ -34,6 +35,16 @@ pub trait ImageStore {
         ensures answer { result ≡ access (length buffer.now) n (length (sectors self.old)) }
         ensures after { sectors self.new ≡ (if is_ok result then slice_set (sectors self.old) n buffer.now else sectors self.old) }
         ensures kept { keeps self.old self.new };
+}
+
+/// Sector `n`; where there is none, zeros.
+pub fn fetch<S: ImageStore>(store: &S, n: usize) -> [u8; SECTOR]
+    ensures sector { result ≡ sector_of (S.sectors store.now) n }
+    ensures inside { n < length (S.sectors store.now) → result ≡ slice_index_or (S.sectors store.now) n [] }
+{
+    let mut buffer = [0u8; SECTOR];
+    let _ = store.read(n, &mut buffer);
+    buffer
 }
 
 /// Copies sector `from` to sector `to`.

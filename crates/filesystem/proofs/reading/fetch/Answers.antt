@@ -1,6 +1,6 @@
 -- What is read is the sector, or zeros.
-use Rattle.filesystem.specs.Sectors.{blank}
-use Rattle.filesystem.proofs.Fetching.{fetched}
+use Rattle.image.specs.Fetched.{blank}
+use Rattle.image.proofs.Fetching.{fetched}
 use Rattle.filesystem.proofs.reading.fetch.Goals as goal
 
 pub returns : goal.returns

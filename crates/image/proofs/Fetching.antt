@@ -7,7 +7,7 @@ use Rattle.image.specs.declared.refusal.Refusal.TheVariants.{SectorNumber}
 use Rattle.image.specs.Sectors.{Sector, Image}
 use Rattle.image.specs.Refusals.{access}
 use Rattle.image.specs.Access.{access_ok}
-use Rattle.filesystem.specs.Sectors.{blank, sector_of, sector_is}
+use Rattle.image.specs.Fetched.{blank, sector_of, sector_is}
 
 module _ (image : Image) (n : ℕ) (r : Result (Unit {0}) Refusal) (b : Sector) where
   pub fetched : r ≡ access 512 n (length image) → b ≡ cond (is_ok r) (get_or image n []) blank → b ≡ sector_of image n
