@@ -3,6 +3,7 @@
 #![tactic(auto)]
 
 mod entry;
+mod extent;
 mod fields;
 mod form;
 mod reader;
@@ -10,5 +11,6 @@ mod refusal;
 mod whole;
 
 pub use entry::{Entry, Flags, Header, Reader};
+pub use extent::Extent;
 pub use refusal::Refusal;
 pub use whole::validate;

@@ -1,5 +1,5 @@
 //! The reader: it opens a recording and goes through it entry by entry.
-ghost use Rattle.std.specs.Prelude.{◌≡◌, ℕ, ◌+◌, ◌^◌, ◌<◌, ◌≤◌, length, if◌then◌else◌};
+ghost use Rattle.std.specs.Prelude.{◌≡◌, ℕ, ◌+◌, ◌^◌, ◌<◌, ◌≤◌, length};
 ghost use Rattle.recording.specs.Heads.{head_faulty};
 ghost use Rattle.recording.specs.Reading.{ahead, next_number, Opening, HeaderFinding, Finding, FindingLaid, Heading, Stepping, Laid, item_seen, item_made, LiesFrom};
 
@@ -76,17 +76,6 @@ fn entry_of<'a>(header: Header<'a>, content: &'a [u8], start: usize) -> Entry<'a
     }
 }
 
-/// How many sectors of data follow: a discard has none.
-fn data_sectors(header: Header) -> u64
-    ensures { result ≡ (if header.entry.flags.discard then 0 else header.entry.sectors) }
-{
-    if header.flags.discard {
-        0
-    } else {
-        header.sectors
-    }
-}
-
 /// Entry `number`, at the front of `rest`, which begins at `start`.
 fn entry_at<'a>(rest: &'a [u8], start: usize, number: u64) -> Result<Found<'a>, Refusal>
     requires { start + length rest.now < 2 ^ 64 }
@@ -94,7 +83,7 @@ fn entry_at<'a>(rest: &'a [u8], start: usize, number: u64) -> Result<Found<'a>, 
     ensures laid { FindingLaid rest.now result }
 {
     let header = header_at(rest, number)?;
-    let sectors = data_sectors(header);
+    let sectors = header.data_sectors();
     let whole = (rest.len() - 512) / 512;
     if sectors > whole as u64 {
         return Err(Refusal::Incomplete { entry: number });
