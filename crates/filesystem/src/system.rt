@@ -12,16 +12,12 @@ pub trait FileSystem {
     /// The fewest sectors of an image.
     const LEAST: usize;
 
-    ghost least: { ℕ };
+    ghost LEAST: { ℕ };
 
     // What a recovery comes to, and the image after it, by the image's sectors alone.
     ghost outcome: { Self → Image → Outcome };
 
     ghost after: { Self → Image → Image };
-
-    /// `LEAST`, for code that knows the file system only by this trait.
-    fn floor() -> usize
-        ensures { result ≡ least };
 
     /// Recovers the image in place, and reads its tree. On a fault the tree is as it was.
     fn recover<S: ImageStore>(&self, image: &mut S, tree: &mut Tree) -> Result<(), Fault>
@@ -30,9 +26,9 @@ pub trait FileSystem {
         ensures tree { is_ok result ≡ false → tree.new ≡ tree.old }
         ensures kept { S.ImageStore.keeps image.old image.new };
 
-    ghost low: { 1 ≤ least };
+    ghost low: { 1 ≤ LEAST };
 
-    ghost high: { least ≤ 64 };
+    ghost high: { LEAST ≤ 64 };
 
     ghost count: { (s : Self) (image : Image) → length (after s image) ≡ length image };
 

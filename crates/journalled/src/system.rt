@@ -33,7 +33,7 @@ fn check_sequence<S: ImageStore>(image: &S) -> Result<(), Fault>
 impl FileSystem for Journalled {
     const LEAST: usize = 16;
 
-    ghost least = { 16 };
+    ghost LEAST = { 16 };
 
     ghost outcome = { λ _ image. journalled_outcome image };
 
@@ -46,10 +46,6 @@ impl FileSystem for Journalled {
     ghost count = { λ s image. after_count image };
 
     ghost shape = { λ s image shaped. after_shaped image shaped };
-
-    fn floor() -> usize {
-        Self::LEAST
-    }
 
     fn recover<S: ImageStore>(&self, image: &mut S, tree: &mut Tree) -> Result<(), Fault> {
         check_head(image, Self::LEAST, FORMAT)?;

@@ -4,7 +4,7 @@ ghost use Rattle.journalled.specs.Transactions.{Tested, CarriedOut, Untouched, U
 
 /// Which transaction stands, what a recovery makes of the image and reads from it, which fault
 /// comes first, and that a second recovery changes nothing.
-pub fn laws() -> u8
+pub fn laws()
     ensures tested { Tested }
     ensures carried { CarriedOut }
     ensures untouched { Untouched }
@@ -13,16 +13,12 @@ pub fn laws() -> u8
     ensures head { HeadFault }
     ensures sequence { SequenceFault }
     ensures settled { Settled }
-{
-    0
-}
+{}
 
 /// Worked examples of the layout.
-pub fn examples() -> u8
+pub fn examples()
     ensures carries { Carries }
     ensures moves { MovesOn }
     ensures ignores { Ignores }
     ensures keeps { Keeps }
-{
-    0
-}
+{}

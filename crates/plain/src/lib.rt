@@ -22,7 +22,7 @@ const LOWEST: usize = 2;
 impl FileSystem for Plain {
     const LEAST: usize = 2;
 
-    ghost least = { 2 };
+    ghost LEAST = { 2 };
 
     ghost outcome = { λ _ image. plain_outcome image };
 
@@ -36,10 +36,6 @@ impl FileSystem for Plain {
 
     ghost shape = { λ s image shaped. shaped };
 
-    fn floor() -> usize {
-        Self::LEAST
-    }
-
     fn recover<S: ImageStore>(&self, image: &mut S, tree: &mut Tree) -> Result<(), Fault> {
         check_head(image, Self::LEAST, FORMAT)?;
         read_tree(image, LOWEST, tree)
@@ -47,20 +43,16 @@ impl FileSystem for Plain {
 }
 
 /// Which fault comes first, and what is read.
-pub fn laws() -> u8
+pub fn laws()
     ensures head { HeadFault }
     ensures read { ReadTree }
-{
-    0
-}
+{}
 
 /// Worked examples of the layout.
-pub fn examples() -> u8
+pub fn examples()
     ensures reads { Reads }
     ensures parent { NoParent }
     ensures sector { PastEnd }
     ensures few { TooFew }
     ensures count { Miscounted }
-{
-    0
-}
+{}
