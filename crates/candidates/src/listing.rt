@@ -6,7 +6,7 @@ use crate::eight::Few;
 
 impl<T: Copy> Few<T> {
     /// No values; `fill` stands in the free cells.
-    pub(crate) fn empty(fill: T) -> Few<T>
+    pub fn empty(fill: T) -> Few<T>
         ensures { listed result ≡ [] }
     {
         let cells = [fill; 8];
