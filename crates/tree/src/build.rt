@@ -12,15 +12,7 @@ use crate::nodes::Tree;
 fn is_directory(node: Node) -> bool
     ensures { result ≡ is_directory node }
 {
-    match node {
-        Node::Absent => false,
-        Node::Directory { parent: _ } => true,
-        Node::File {
-            parent: _,
-            length: _,
-            print: _,
-        } => false,
-    }
+    matches!(node, Node::Directory { .. })
 }
 
 /// Whether node `k` may lie below `parent`.
@@ -28,7 +20,7 @@ fn lies_below(nodes: &[Node], k: usize, parent: u8) -> bool
     requires { k ≤ length nodes.now }
     ensures { result ≡ below nodes.now k parent }
 {
-    let parent = parent as usize;
+    let parent = usize::from(parent);
     parent < k && is_directory(nodes[parent])
 }
 
@@ -39,23 +31,15 @@ fn is_placed(nodes: &[Node], k: usize, node: Node) -> bool
 {
     match node {
         Node::Absent => k > 0,
-        Node::Directory { parent } => {
-            if k == 0 {
-                parent == 0
-            } else {
-                lies_below(nodes, k, parent)
-            }
-        }
-        Node::File {
-            parent,
-            length,
-            print: _,
-        } => lies_below(nodes, k, parent) && length <= 512,
+        Node::Directory { parent } if k == 0 => parent == 0,
+        Node::Directory { parent } => lies_below(nodes, k, parent),
+        Node::File { parent, length, .. } => lies_below(nodes, k, parent) && length <= 512,
     }
 }
 
 impl Builder {
     /// Lays the next node, unless it breaks a rule or all 16 are laid; then nothing changes.
+    #[tactic(auto, unfolding(crate::specs::Rules::allowed))]
     pub fn lay(&mut self, node: Node) -> Result<(), Misplaced>
         ensures answer { is_ok result ≡ allowed self.old.nodes self.old.laid node }
         ensures nodes { self.new.nodes ≡ (if is_ok result then slice_set self.old.nodes self.old.laid node else self.old.nodes) }
@@ -73,10 +57,10 @@ impl Builder {
     pub fn finish(self) -> Option<Tree>
         ensures { MatchOption result (self.laid ≢ 16) (λ t. (self.laid ≡ 16) × (t.nodes ≡ self.nodes)) }
     {
-        if self.laid < NODES {
+        let Builder { nodes, laid } = self;
+        if laid < NODES {
             return None;
         }
-        let nodes = self.nodes;
         Some(Tree { nodes })
     }
 }
@@ -86,7 +70,7 @@ impl Tree {
     pub fn bare() -> Tree
         ensures { result.nodes ≡ bare }
     {
-        let mut nodes = [Node::Absent; 16];
+        let mut nodes = [Node::Absent; NODES];
         nodes[0] = Node::Directory { parent: 0 };
         Tree { nodes }
     }
@@ -95,11 +79,7 @@ impl Tree {
     pub fn node(&self, k: usize) -> Node
         ensures { result ≡ slice_index_or self.now.nodes k Absent }
     {
-        if k < NODES {
-            self.nodes[k]
-        } else {
-            Node::Absent
-        }
+        self.nodes.get(k).copied().unwrap_or(Node::Absent)
     }
 
     /// The parent of node `k`, if the node is there.
@@ -110,12 +90,7 @@ impl Tree {
     {
         match self.node(k) {
             Node::Absent => None,
-            Node::Directory { parent } => Some(parent as usize),
-            Node::File {
-                parent,
-                length: _,
-                print: _,
-            } => Some(parent as usize),
+            Node::Directory { parent } | Node::File { parent, .. } => Some(usize::from(parent)),
         }
     }
 }

@@ -3,12 +3,13 @@ ghost use Rattle.std.specs.Prelude.{◌≡◌, ℕ, ◌<◌, ◌≤◌, true, le
 ghost use Rattle.tree.specs.Rules.{allowed};
 ghost use Rattle.tree.specs.declared.node.Node.TheVariants.{Absent};
 
+use crate::NODES;
 use crate::node::Node;
 
 /// The first nodes of a tree, in the order of their numbers.
 #[derive(Clone, Copy)]
 pub struct Builder {
-    pub(crate) nodes: [Node; 16],
+    pub(crate) nodes: [Node; NODES],
     pub(crate) laid: usize,
     ghost size: { length nodes ≡ 16 },
     ghost most: { laid ≤ 16 },
@@ -22,7 +23,7 @@ impl Builder {
         ensures nodes { result.nodes ≡ replicate 16 Absent }
     {
         Builder {
-            nodes: [Node::Absent; 16],
+            nodes: [Node::Absent; NODES],
             laid: 0,
         }
     }

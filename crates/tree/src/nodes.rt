@@ -3,13 +3,14 @@ ghost use Rattle.std.specs.Prelude.{◌≡◌, ℕ, ◌<◌, ◌≤◌, true, le
 ghost use Rattle.tree.specs.Rules.{is_directory, parent_of, length_of};
 ghost use Rattle.tree.specs.declared.node.Node.TheVariants.{Absent, Directory};
 
+use crate::NODES;
 use crate::node::Node;
 
 /// 16 nodes. Node 0 is a directory and its own parent; the parent of another that is there
 /// is a directory with a lower number; and no file is longer than a sector.
 #[derive(Clone, Copy)]
 pub struct Tree {
-    pub(crate) nodes: [Node; 16],
+    pub(crate) nodes: [Node; NODES],
     ghost size: { length nodes ≡ 16 },
     ghost root: { slice_index_or nodes 0 Absent ≡ Directory 0 },
     ghost lower: { ((k p : ℕ) → 0 < k → parent_of (slice_index_or nodes k Absent) ≡ Some p → p < k) },
