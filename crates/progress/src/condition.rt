@@ -18,19 +18,18 @@ pub enum Condition {
 }
 
 /// How far a run is. The standing state is the one of `rank` at `point`, which has so many states;
-/// the last point is `last`; `unsafe_judged` of the judged states were unsafe, the first of them at
-/// `first_point` with `first_rank`.
+/// the last point is `last`; `unsafe_judged` of the judged states were unsafe, and `first` is the
+/// point and the rank of the first of them. What is counted is told by `report` alone.
 #[derive(Clone, Copy)]
 pub struct Progress {
     pub condition: Condition,
     pub last: usize,
     pub point: usize,
     pub rank: u64,
-    pub states: u64,
-    pub judged: u64,
-    pub unsafe_judged: u64,
-    pub forgone: u64,
-    pub passed: u64,
-    pub first_point: usize,
-    pub first_rank: u64,
+    pub(crate) states: u64,
+    pub(crate) judged: u64,
+    pub(crate) unsafe_judged: u64,
+    pub(crate) forgone: u64,
+    pub(crate) passed: u64,
+    pub(crate) first: Option<(usize, u64)>,
 }

@@ -19,8 +19,7 @@ impl Progress {
             unsafe_judged: 0,
             forgone: 0,
             passed: 0,
-            first_point: 0,
-            first_rank: 0,
+            first: None,
         }
     }
 
@@ -65,11 +64,8 @@ impl Progress {
     {
         self.condition = Condition::Judged;
         self.judged = self.judged.saturating_add(1);
-        if is_unsafe && self.unsafe_judged == 0 {
-            self.first_point = self.point;
-            self.first_rank = self.rank;
-        }
         if is_unsafe {
+            self.first = self.first.or(Some((self.point, self.rank)));
             self.unsafe_judged = self.unsafe_judged.saturating_add(1);
         }
     }

@@ -14,15 +14,15 @@ use std::fmt;
 #[derive(Clone, Copy, PartialEq, Eq, Debug)]
 pub enum Verdict {
     /// Nothing is loaded.
-    Empty,
+    Empty = 0,
     /// The search has not ended.
-    Unfinished,
+    Unfinished = 1,
     /// Every state of every point was judged, and none is unsafe.
-    Safe,
+    Safe = 2,
     /// A state was judged unsafe.
-    Unsafe,
+    Unsafe = 3,
     /// The search has ended, and states were forgone.
-    Open,
+    Open = 4,
 }
 
 impl Verdict {
@@ -30,25 +30,20 @@ impl Verdict {
     pub fn code(&self) -> u32
         ensures { result ≡ code_of self.now }
     {
-        match self {
-            Verdict::Empty => 0,
-            Verdict::Unfinished => 1,
-            Verdict::Safe => 2,
-            Verdict::Unsafe => 3,
-            Verdict::Open => 4,
-        }
+        *self as u32
     }
 }
 
+// No derive writes the verdicts in small letters.
 impl fmt::Display for Verdict {
     fn fmt<W: fmt::Write>(&self, f: &mut fmt::Formatter<W>) -> fmt::Result {
-        match self {
-            Verdict::Empty => write!(f, "empty"),
-            Verdict::Unfinished => write!(f, "unfinished"),
-            Verdict::Safe => write!(f, "safe"),
-            Verdict::Unsafe => write!(f, "unsafe"),
-            Verdict::Open => write!(f, "open"),
-        }
+        f.write_str(match self {
+            Verdict::Empty => "empty",
+            Verdict::Unfinished => "unfinished",
+            Verdict::Safe => "safe",
+            Verdict::Unsafe => "unsafe",
+            Verdict::Open => "open",
+        })
     }
 }
 
@@ -65,37 +60,33 @@ pub struct Report {
     pub rank: u64,
 }
 
-/// The verdict of a run in a condition, with so many unsafe and so many forgone states.
-fn verdict_of(condition: Condition, unsafe_judged: u64, forgone: u64) -> Verdict
-    ensures { code_of result ≡ verdict_of (condition_of condition) unsafe_judged forgone }
-{
-    match condition {
-        Condition::Empty => Verdict::Empty,
-        _ if unsafe_judged > 0 => Verdict::Unsafe,
-        Condition::Ended => {
-            if forgone > 0 {
-                Verdict::Open
-            } else {
-                Verdict::Safe
-            }
-        }
-        _ => Verdict::Unfinished,
-    }
-}
-
 impl Progress {
+    /// The verdict on a run that is so far.
+    fn verdict(&self) -> Verdict
+        ensures { code_of result ≡ verdict_of (condition_of self.now.condition) self.now.unsafe_judged self.now.forgone }
+    {
+        match self.condition {
+            Condition::Empty => Verdict::Empty,
+            _ if self.unsafe_judged > 0 => Verdict::Unsafe,
+            Condition::Ended if self.forgone > 0 => Verdict::Open,
+            Condition::Ended => Verdict::Safe,
+            _ => Verdict::Unfinished,
+        }
+    }
+
     /// The report on a run that is so far.
     pub fn report(&self) -> Report
         ensures { (base : Image) (R : Recording) → report_seen result ≡ report_on (view_of base R self.now) }
     {
+        let (point, rank) = self.first.unwrap_or((0, 0));
         Report {
-            verdict: verdict_of(self.condition, self.unsafe_judged, self.forgone),
+            verdict: self.verdict(),
             judged: self.judged,
             unsafe_judged: self.unsafe_judged,
             forgone: self.forgone,
             passed: self.passed,
-            point: self.first_point,
-            rank: self.first_rank,
+            point,
+            rank,
         }
     }
 }
