@@ -1,9 +1,7 @@
 -- The mark that is found is the one that spells the text.
-use Rattle.std.proofs.Common.{◌≡◌, ℕ, zero, suc, ◌+◌, ◌-◌, ◌*◌, ◌/◌, ◌%◌, ◌^◌, ◌<◌, true, cond, ◌&&◌, ltb, leb, List, [], ◌∷◌, ◌++◌, length, drop, Some, None, Ok, Err, codes, decimal, Option, sym, refl, ap, ◌∙◌, subst, inl, inr, append_assoc, pow-suc, arith}
+use Rattle.std.proofs.Common.{◌≡◌, ℕ, zero, suc, ◌+◌, ◌-◌, ◌*◌, ◌/◌, ◌%◌, ◌^◌, ◌<◌, true, cond, ◌&&◌, ltb, leb, List, [], ◌∷◌, ◌++◌, length, drop, Some, None, codes, decimal, Option, sym, refl, ap, ◌∙◌, subst, inl, inr, append_assoc, pow-suc, arith}
 use Rattle.std.specs.Char.{digit_char}
 use Rattle.std.specs.Str.{bytes_eq}
-use Rattle.std.specs.Option.{ok_or}
-use Rattle.mark.specs.declared.refusal.Refusal.TheVariants.{NoMark}
 use Rattle.std.proofs.lemmas.Slice.Eq.{bytes_eq-Decides}
 use Rattle.std.proofs.lemmas.List.Sums.{fold_push}
 use Rattle.std.proofs.lemmas.Nat.{div_below, mod_below}
@@ -12,7 +10,7 @@ use Rattle.std.proofs.lemmas.Bool.{cases_lt, cases_eq, cases_Bool, and_parts, an
 use Rattle.tree.specs.Hex.{hexes}
 use Rattle.mark.specs.declared.mark.Mark.{Mark}
 use Rattle.mark.specs.declared.mark.Mark.TheVariants.{File, Directory, Absent, Sync, Comment}
-use Rattle.mark.specs.Marks.{Spells, spaced}
+use Rattle.mark.specs.Marks.{Spells, Finds, spaced}
 use Rattle.mark.specs.Found.{is_note, spells, whether, either, among, digit_value, hex_value, last_print, mark_of, TheMark}
 use Rattle.mark.proofs.Unique.{one}
 
@@ -212,22 +210,11 @@ pub the_mark : TheMark
 unfolding Right There
 the_mark t m = (right t m, λ s. let f = there t m s in f.1 ∙ ap Some (one t f.0 m (right t f.0 f.1) s))
 
--- what the reader answers is the mark found
-pub read_value : (t : List ℕ) (m : Mark) → Spells m t → Ok m ≡ ok_or (mark_of t) NoMark
-read_value t m s = sym (ap (λ o. ok_or o NoMark) ((the_mark t m).1 s))
-
-pub none_value : (t : List ℕ) → ((m : Mark) → Spells m t → ⊥) → Err NoMark ≡ ok_or (mark_of t) NoMark
-none_value t h = go (mark_of t) refl
+-- what spells a text, or that nothing does, is the mark found
+pub is_found : (t : List ℕ) (o : Option Mark) → Finds t o → o ≡ mark_of t
+is_found t (Some m) s = sym ((the_mark t m).1 s)
+is_found t None never = go (mark_of t) refl
   where
-    go : (o : Option Mark) → mark_of t ≡ o → Err NoMark ≡ ok_or (mark_of t) NoMark
-    go None e = sym (ap (λ o. ok_or o NoMark) e)
-    go (Some m) e = absurd (h m ((the_mark t m).0 e))
-
--- an empty text spells no mark
-pub empty_never : (t : List ℕ) → length t ≡ 0 → (m : Mark) → Spells m t → ⊥
-empty_never t e (File n p l h) s = let z = ap length s.0 in omega arith
-empty_never t e (Directory n p) s = let z = ap length s.0 in omega arith
-empty_never t e (Absent n) s = let z = ap length s.0 in omega arith
-empty_never t e (Sync n) s = let z = ap length s.0 in omega arith
-empty_never t e Comment (inl s) = let z = ap length s.1 in omega arith
-empty_never t e Comment (inr s) = let z = ap length s in omega arith
+    go : (o : Option Mark) → mark_of t ≡ o → None ≡ mark_of t
+    go None e = sym e
+    go (Some m) e = absurd (never m ((the_mark t m).0 e))

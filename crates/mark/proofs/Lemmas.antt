@@ -1,32 +1,24 @@
 -- Decimal numbers and the run of digits at the front of a text.
-use Rattle.std.proofs.Common.{◌≡◌, ℕ, ◌+◌, ◌-◌, ◌*◌, ◌^◌, ◌<◌, ◌≤◌, List, ◌++◌, length, get_or, take, drop, decimal, sym, ap, ◌∙◌, subst, ⊎_elim, add-zero, pow-suc, add-one, arith}
+use Rattle.std.proofs.Common.{◌≡◌, ℕ, ◌+◌, ◌^◌, ◌<◌, ◌≤◌, List, ◌++◌, length, get_or, take, drop, decimal, sym, ap, ◌∙◌, subst, ⊎_elim, add-zero, arith}
 use Rattle.std.specs.Int.{IsInRange}
-use Rattle.std.specs.Char.{digit_value}
 use Rattle.std.specs.Str.Parse.{digits_value}
 use Rattle.std.proofs.str.Laws.{order}
 use Rattle.std.proofs.lemmas.List.{length-append, length-take-le, take-append-drop, get_or-take, get_or-drop, get_or_append_left, get_or-append-add, length-drop, take_at, drop_at}
 use Rattle.std.proofs.lemmas.Str.Parse.{IsNumeralModel, numerals_by_value, tells_by_index, digits_value_short}
 use Rattle.std.proofs.lemmas.Fmt.{digits_decimal, digits_value-decimal, decimal-digits_value, decimal_nonempty, length-decimal-le, first_decimal, decimal_digit}
-use Rattle.std.proofs.lemmas.Bool.Decides.{nat_tests}
 use Rattle.mark.specs.Numbers.{Run, NoDigit, Front}
 
 abbrev AllDigits : List ℕ → Type 0
 AllDigits ds = (k : ℕ) → k < length ds → IsInRange 48 57 (get_or ds k 0)
 
-pub own : IsNumeralModel AllDigits (digits_value 10)
+own : IsNumeralModel AllDigits (digits_value 10)
 own = numerals_by_value _ tells_by_index
-
-pub digit_is : (c : ℕ) → IsInRange 48 57 c → digit_value c ≡ c - 48
-digit_is c h = grind (arith, nat_tests)
-
-pub ten_more : (i : ℕ) → 10 ^ (i + 1) ≡ 10 ^ i * 10
-ten_more i = rw (add-one, pow-suc)
 
 module _ (t : List ℕ) (n : ℕ) (run : Run t n) where
   long : length (take n t) ≡ n
   long = length-take-le n t run.within
 
-  pub digits : AllDigits (take n t)
+  digits : AllDigits (take n t)
   digits k h = let low : k < n = omega (arith, long) in rw (get_or-take n t k 0 low) (run.all k low)
 
   pub no_more : NoDigit (drop n t)

@@ -2,6 +2,7 @@
 use Rattle.std.specs.Prelude.{◌≡◌, ℕ, ◌^◌, ◌<◌, ◌≤◌, ◌⊎◌, List, [], ◌∷◌, ◌++◌, Some, None, Ok, Err, codes, decimal, Option, Result}
 use Rattle.tree.specs.Hex.{hexes}
 use Rattle.mark.specs.declared.numbers.Number.{Number}
+use Rattle.mark.specs.declared.reader.NodeAndParent.{NodeAndParent}
 use Rattle.mark.specs.declared.mark.Mark.{Mark}
 use Rattle.mark.specs.declared.mark.Mark.TheVariants.{File, Directory, Absent, Sync, Comment}
 use Rattle.mark.specs.declared.refusal.Refusal.{Refusal}
@@ -51,3 +52,12 @@ Spaced t (Some x) = Next x.value x.rest.now t × ((v : ℕ) (rest : List ℕ) �
 abbrev pub Lone : List ℕ → Option ℕ → Type 0
 Lone t None = (n : ℕ) → t ≡ spaced n [] → 1 ≤ n → n ≤ 15 → ⊥
 Lone t (Some n) = (t ≡ spaced n []) × (1 ≤ n) × (n ≤ 15)
+
+-- t is a space and the number n of a node, a space and the number p of its parent, and then `rest`
+abbrev pub NextTwo : (n p : ℕ) → List ℕ → List ℕ → Type 0
+NextTwo n p rest t = (t ≡ spaced n (spaced p rest)) × (1 ≤ n) × (n ≤ 15) × (p < n) × NoDigit rest
+
+-- the one node and parent that stand at the front of t
+abbrev pub SpacedTwo : List ℕ → Option NodeAndParent → Type 0
+SpacedTwo t None = (n p : ℕ) (rest : List ℕ) → NextTwo n p rest t → ⊥
+SpacedTwo t (Some x) = NextTwo x.node x.parent x.rest.now t × ((n p : ℕ) (rest : List ℕ) → NextTwo n p rest t → (x.node ≡ n) × (x.parent ≡ p) × (x.rest.now ≡ rest))

@@ -1,5 +1,5 @@
 //! Decimal numbers at the front of a text.
-ghost use Rattle.std.specs.Prelude.{◌≡◌, ℕ, ◌+◌, ◌<◌, ◌≤◌, length, slice_index};
+ghost use Rattle.std.specs.Prelude.{◌≡◌, ◌≤◌, length, slice_index, EachIndex};
 ghost use Rattle.std.specs.Int.{IsInRange};
 ghost use Rattle.std.specs.Str.Parse.{digits_value as value_of};
 ghost use Rattle.mark.specs.Numbers.{Run, Reads};
@@ -15,18 +15,16 @@ pub struct Number<'a> {
 fn run(text: &[u8]) -> usize
     ensures { Run text.now result }
 {
-    let mut n = 0;
-    while n < text.len() && text[n] >= b'0' && text[n] <= b'9' {
-        n += 1;
-    }
-    n
+    text.iter().take_while(|b| b.is_ascii_digit()).count()
 }
 
 /// The number that at most three digits write.
 fn value(digits: &[u8]) -> u16
-    requires { (length digits.now ≤ 3) × (((k : ℕ) → k < length digits.now → IsInRange 48 57 (slice_index digits.now k))) }
+    requires short { length digits.now ≤ 3 }
+    requires digits { EachIndex digits.now (λ k. IsInRange 48 57 (slice_index digits.now k)) }
     ensures { result ≡ value_of 10 digits.now }
 {
+    // Not a fold: its step would not know that there is room for one digit more.
     let mut sum = 0;
     for b in digits {
         sum = sum * 10 + u16::from(*b - b'0');
@@ -45,8 +43,9 @@ pub fn read(text: &[u8]) -> Option<Number<'_>>
     if n > 1 && text[0] == b'0' {
         return None;
     }
+    let (digits, rest) = text.split_at(n);
     Some(Number {
-        value: value(&text[0..n]),
-        rest: &text[n..],
+        value: value(digits),
+        rest,
     })
 }

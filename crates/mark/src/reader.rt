@@ -1,9 +1,9 @@
 //! Reads the text of a mark.
-ghost use Rattle.std.specs.Prelude.{◌≡◌, ◌<◌, ◌∷◌};
+ghost use Rattle.std.specs.Prelude.{◌≡◌, ◌<◌, ◌≤◌, ◌∷◌, ◌⊎◌, MatchOption};
 ghost use Rattle.std.specs.Option.{ok_or};
 ghost use Rattle.mark.specs.declared.refusal.Refusal.TheVariants.{NoMark};
 ghost use Rattle.mark.specs.Found.{mark_of, TheMark};
-ghost use Rattle.mark.specs.Marks.{Finds, Spaced, Lone, ReadAs, Only, AtMostOne};
+ghost use Rattle.mark.specs.Marks.{Finds, Spaced, Lone, SpacedTwo, ReadAs, Only, AtMostOne};
 
 use crate::mark::Mark;
 use crate::numbers::Number;
@@ -14,73 +14,65 @@ use crate::{hex, numbers};
 fn spaced(text: &[u8]) -> Option<Number<'_>>
     ensures { Spaced text.now result }
 {
-    match text {
-        [b' ', rest @ ..] => numbers::read(rest),
-        _ => None,
-    }
+    numbers::read(text.strip_prefix(b" ")?)
+}
+
+/// The number of a node that a mark may name: 1 to 15.
+fn node_of(value: u16) -> Option<u8>
+    ensures { MatchOption result ((value ≡ 0) ⊎ (15 < value)) (λ n. (n ≡ value) × (1 ≤ n) × (n ≤ 15)) }
+{
+    u8::try_from(value)
+        .ok()
+        .filter(|node| (1..=15).contains(node))
 }
 
 /// The one number of a mark that has no other: a node's.
 fn lone_node(body: &[u8]) -> Option<u8>
     ensures { Lone body.now result }
 {
-    let Some(n) = spaced(body) else {
-        return None;
-    };
-    if n.rest.len() > 0 {
+    let n = spaced(body)?;
+    if !n.rest.is_empty() {
         return None;
     }
-    if n.value == 0 || n.value > 15 {
-        return None;
-    }
-    Some(n.value as u8)
+    node_of(n.value)
 }
 
-/// What follows the letter x.
-fn absent(body: &[u8]) -> Option<Mark>
-    ensures { Finds (120 ∷ body.now) result }
-{
-    match lone_node(body) {
-        Some(node) => Some(Mark::Absent { node }),
-        None => None,
-    }
+/// A node, its parent, and what follows their numbers.
+#[derive(Clone, Copy, Debug)]
+pub(crate) struct NodeAndParent<'a> {
+    node: u8,
+    parent: u8,
+    rest: &'a [u8],
 }
 
-/// What follows the letter s.
-fn sync(body: &[u8]) -> Option<Mark>
-    ensures { Finds (115 ∷ body.now) result }
+/// The numbers of a node and of its parent, which is a lower one.
+fn node_and_parent(body: &[u8]) -> Option<NodeAndParent<'_>>
+    ensures { SpacedTwo body.now result }
 {
-    match lone_node(body) {
-        Some(node) => Some(Mark::Sync { node }),
-        None => None,
-    }
+    let n = spaced(body)?;
+    let p = spaced(n.rest)?;
+    let node = node_of(n.value)?;
+    let parent = u8::try_from(p.value).ok().filter(|parent| *parent < node)?;
+    Some(NodeAndParent {
+        node,
+        parent,
+        rest: p.rest,
+    })
 }
 
 /// What follows the letter f.
 fn file(body: &[u8]) -> Option<Mark>
     ensures { Finds (102 ∷ body.now) result }
 {
-    let Some(n) = spaced(body) else {
-        return None;
-    };
-    let Some(p) = spaced(n.rest) else {
-        return None;
-    };
-    let Some(l) = spaced(p.rest) else {
-        return None;
-    };
-    let [b' ', digits @ ..] = l.rest else {
-        return None;
-    };
-    let Some(print) = hex::eight(digits) else {
-        return None;
-    };
-    if n.value == 0 || n.value > 15 || p.value >= n.value || l.value > 512 {
+    let NodeAndParent { node, parent, rest } = node_and_parent(body)?;
+    let l = spaced(rest)?;
+    let print = hex::eight(l.rest.strip_prefix(b" ")?)?;
+    if l.value > 512 {
         return None;
     }
     Some(Mark::File {
-        node: n.value as u8,
-        parent: p.value as u8,
+        node,
+        parent,
         length: l.value,
         print,
     })
@@ -93,33 +85,20 @@ fn directory(body: &[u8]) -> Option<Mark>
     if body == b"m-log-writes-end".as_slice() {
         return Some(Mark::Comment);
     }
-    let Some(n) = spaced(body) else {
-        return None;
-    };
-    let Some(p) = spaced(n.rest) else {
-        return None;
-    };
-    if p.rest.len() > 0 {
-        return None;
-    }
-    if n.value == 0 || n.value > 15 || p.value >= n.value {
-        return None;
-    }
-    Some(Mark::Directory {
-        node: n.value as u8,
-        parent: p.value as u8,
-    })
+    let NodeAndParent { node, parent, rest } = node_and_parent(body)?;
+    rest.is_empty().then_some(Mark::Directory { node, parent })
 }
 
-/// The mark of a letter and what follows it.
-fn letter(first: u8, body: &[u8]) -> Option<Mark>
-    ensures { Finds (first ∷ body.now) result }
+/// The mark that spells `text`, by its first letter.
+fn find(text: &[u8]) -> Option<Mark>
+    ensures { Finds text.now result }
 {
-    match char::from(first) {
+    let (first, body) = text.split_first()?;
+    match char::from(*first) {
         'f' => file(body),
         'd' => directory(body),
-        'x' => absent(body),
-        's' => sync(body),
+        'x' => lone_node(body).map(|node| Mark::Absent { node }),
+        's' => lone_node(body).map(|node| Mark::Sync { node }),
         '#' => Some(Mark::Comment),
         _ => None,
     }
@@ -131,19 +110,11 @@ pub fn read_mark(text: &[u8]) -> Result<Mark, Refusal>
     ensures only { Only text.now result }
     ensures value { result ≡ ok_or (mark_of text.now) NoMark }
 {
-    let [first, body @ ..] = text else {
-        return Err(Refusal::NoMark);
-    };
-    match letter(*first, body) {
-        Some(mark) => Ok(mark),
-        None => Err(Refusal::NoMark),
-    }
+    find(text).ok_or(Refusal::NoMark)
 }
 
 /// A text spells at most one mark, and `mark_of` is that one.
-pub fn at_most_one() -> u8
+pub fn at_most_one()
     ensures one { AtMostOne }
     ensures found { TheMark }
-{
-    0
-}
+{}

@@ -1,28 +1,12 @@
--- A text is its first letter and what follows.
-use Rattle.std.proofs.Common.{◌<◌, length, Ok, sym, refl, ap, subst, rules}
-use Rattle.mark.specs.declared.mark.Mark.{Mark}
-use Rattle.mark.specs.Marks.{Spells}
-use Rattle.mark.proofs.Texts.{by_first}
-use Rattle.mark.proofs.Unique.{one}
-use Rattle.mark.proofs.Finding.{read_value, none_value, empty_never}
+-- The mark found is the one that spells the text.
+use Rattle.std.proofs.Common.{ap, ◌∙◌}
+use Rattle.std.specs.Option.{ok_or}
+use Rattle.mark.specs.declared.refusal.Refusal.TheVariants.{NoMark}
+use Rattle.mark.proofs.Finding.{the_mark, is_found}
 use Rattle.mark.proofs.reader.read_mark.Goals as goal
 
-pub returns-in-Some : goal.returns-in-Some
-returns-in-Some c =
-    let t = c.args.text.now in
-    let some : 0 < length t = search rules in
-    let s = subst (Spells c.in-Some.mark) (sym (by_first t _ some refl)) c.in-Some.ensures in
-    record { spelled = s; only = λ m z. ap Ok (one t c.in-Some.mark m s z); value = read_value t c.in-Some.mark s }
+pub returns-clause-only : goal.returns-clause-only
+returns-clause-only c m s = c.ok_or.ensures.value ∙ ap (λ o. ok_or o NoMark) (is_found _ _ c.find.ensures ∙ (the_mark _ m).1 s)
 
-pub returns-in-None : goal.returns-in-None
-returns-in-None c =
-    let t = c.args.text.now in
-    let some : 0 < length t = search rules in
-    let never : (m : Mark) → Spells m t → ⊥ = λ m s. c.in-None.ensures m (subst (Spells m) (by_first t _ some refl) s) in
-    record { spelled = never; only = λ m s. absurd (never m s); value = none_value t never }
-
-pub returns-in_default : goal.returns-in_default
-returns-in_default c =
-    let t = c.args.text.now in
-    let never = empty_never t (search rules) in
-    record { spelled = never; only = λ m s. absurd (never m s); value = none_value t never }
+pub returns-clause-value : goal.returns-clause-value
+returns-clause-value c = c.ok_or.ensures.value ∙ ap (λ o. ok_or o NoMark) (is_found _ _ c.find.ensures)
