@@ -1,8 +1,8 @@
 -- The nodes laid so far, and what they say of the whole tree.
-use Rattle.std.proofs.Common.{◌≡◌, ℕ, ◌+◌, ◌<◌, min, Bool, true, false, cond, ◌&&◌, List, length, get_or, take, set, sym, ap, ◌∙◌, inl, inr, arith, below_more}
+use Rattle.std.proofs.Common.{◌≡◌, ℕ, ◌+◌, ◌<◌, Bool, true, false, cond, ◌&&◌, List, length, get_or, set, sym, ap, ◌∙◌, arith, below_more}
 use Rattle.std.proofs.lemmas.List.FromFn.{get_or-map-range_with_len, fill_by_all}
-use Rattle.std.proofs.lemmas.List.{get_or-set_same, get_or-set_other, take_all}
-use Rattle.std.proofs.lemmas.Bool.{lt-ltb, cases_lt}
+use Rattle.std.proofs.lemmas.List.{get_or-set_same, get_or-set_other}
+use Rattle.std.proofs.lemmas.Bool.{lt-ltb}
 use Rattle.tree.specs.declared.node.Node.{Node}
 use Rattle.tree.specs.declared.node.Node.TheVariants.{Absent}
 use Rattle.tree.specs.Rules.{allowed}
@@ -13,12 +13,6 @@ use Rattle.filesystem.specs.Least.{none_fails, one_fails}
 use Rattle.filesystem.specs.Outcomes.{a_tree, a_fault}
 use Rattle.filesystem.specs.Words.{word_stands}
 use Rattle.filesystem.specs.Trees.{node_of, node_word, node_at, nodes_of, node_stands, tree_from, tree_of}
-
-pub take_front : (n : ℕ) (xs : List ℕ) → length xs ≡ 512 → take (min n 512) xs ≡ take n xs
-take_front n xs h = elim (cases_lt n 512) [
-  | inl l ↦ let e : min n 512 ≡ n = omega arith in ap (λ m. take m xs) e
-  | inr l ↦ take_all (min n 512) xs (omega arith) ∙ sym (take_all n xs (omega arith))
-]
 
 nodes_at : (im : Image) (j : ℕ) → j < 16 → get_or (nodes_of im) j Absent ≡ node_at im j
 unfolding nodes_of

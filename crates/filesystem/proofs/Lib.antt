@@ -1,3 +1,2 @@
-pub mod Heading
 pub mod Laying
-pub mod Telling
+pub mod Saying

@@ -4,7 +4,7 @@ use Rattle.image.specs.Sectors.{Image}
 use Rattle.filesystem.specs.declared.fault.Fault.{Fault}
 use Rattle.filesystem.specs.declared.fault.Fault.TheVariants.{Format, Count}
 use Rattle.filesystem.specs.Outcomes.{Outcome, a_fault}
-use Rattle.filesystem.specs.Sectors.{sector_of}
+use Rattle.image.specs.Fetched.{sector_of}
 use Rattle.filesystem.specs.Words.{word_at, is_word}
 
 -- word i of sector 0

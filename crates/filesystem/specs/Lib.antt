@@ -1,5 +1,5 @@
-pub mod Sectors
 pub mod Words
+pub mod NodeWords
 pub mod Least
 pub mod Outcomes
 pub mod Heads

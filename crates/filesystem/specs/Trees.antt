@@ -9,7 +9,7 @@ use Rattle.image.specs.Sectors.{Image}
 use Rattle.filesystem.specs.declared.fault.Fault.TheVariants.{NodeWord}
 use Rattle.filesystem.specs.Least.{first_failing}
 use Rattle.filesystem.specs.Outcomes.{Outcome, a_tree, a_fault}
-use Rattle.filesystem.specs.Sectors.{sector_of}
+use Rattle.image.specs.Fetched.{sector_of}
 use Rattle.filesystem.specs.Words.{word_at, kind, parent_in, length_in, sector_in, word_stands}
 
 -- the bytes of the file that a word describes: the front of its data sector

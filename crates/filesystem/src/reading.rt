@@ -1,26 +1,19 @@
 //! The tree that an image's node words mean.
-ghost use Rattle.std.specs.Prelude.{◌≡◌, ◌+◌, false, ◌&&◌, length, take, is_ok, if◌then◌else◌, slice_set};
+ghost use Rattle.std.specs.Prelude.{◌≡◌, ℕ, ◌+◌, false, ◌&&◌, length, take, is_ok, if◌then◌else◌, slice_set};
 ghost use Rattle.tree.specs.Prints.{print_of};
 ghost use Rattle.tree.specs.Rules.{allowed};
-ghost use Rattle.filesystem.specs.Sectors.{sector_of};
+ghost use Rattle.image.specs.Fetched.{sector_of};
 ghost use Rattle.filesystem.specs.Outcomes.{told};
 ghost use Rattle.filesystem.specs.Words.{word_stands};
+ghost use Rattle.filesystem.specs.NodeWords.{Says};
 ghost use Rattle.filesystem.specs.Told.{ToldOne, ToldTree, ToldFault};
 ghost use Rattle.filesystem.specs.Trees.{node_of, tree_of};
 
 use crate::fault::Fault;
-use crate::words::{word_at, word_stands};
-use image::{ImageStore, SECTOR};
-use tree::{Builder, Node, Tree, print};
-
-/// Sector `n`; where there is none, zeros.
-pub fn fetch<S: ImageStore>(image: &S, n: usize) -> [u8; 512]
-    ensures { result ≡ sector_of (S.sectors image.now) n }
-{
-    let mut buffer = [0u8; SECTOR];
-    let _ = image.read(n, &mut buffer);
-    buffer
-}
+use crate::node_word::NodeWord;
+use crate::words::word_at;
+use image::{ImageStore, SECTOR, fetch};
+use tree::{Builder, Misplaced, Node, Tree, print};
 
 /// The print of the first `size` bytes of a sector, of all where it has no more.
 fn front_print<S: ImageStore>(image: &S, sector: usize, size: usize) -> u32
@@ -30,36 +23,42 @@ fn front_print<S: ImageStore>(image: &S, sector: usize, size: usize) -> u32
     print(&buffer[0..size.min(SECTOR)])
 }
 
-/// The node that `word` means.
-fn meaning<S: ImageStore>(image: &S, word: u32) -> Node
-    ensures { result ≡ node_of (S.sectors image.now) word }
+/// The node that a word means by what it says.
+fn meaning<S: ImageStore>(image: &S, said: NodeWord) -> Node
+    ensures { (word : ℕ) → Says said word → result ≡ node_of (S.sectors image.now) word }
 {
-    let parent = ((word >> 26) % 16) as u8;
-    match word >> 30 {
-        1 => Node::Directory { parent },
-        2 => {
-            let length = (word >> 16) % 1024;
-            let print = front_print(image, (word % 256) as usize, length as usize);
-            Node::File {
-                parent,
-                length: length as u16,
-                print,
-            }
-        }
-        _ => Node::Absent,
+    match said {
+        NodeWord::Absent => Node::Absent,
+        NodeWord::Directory { parent } => Node::Directory { parent },
+        NodeWord::File {
+            parent,
+            length,
+            sector,
+        } => Node::File {
+            parent,
+            length,
+            print: front_print(image, usize::from(sector), usize::from(length)),
+        },
     }
 }
 
 /// Lays the node that `word` means, unless the word or the node breaks a rule.
-fn lay_word<S: ImageStore>(image: &S, lowest: usize, word: u32, builder: &mut Builder) -> bool
-    ensures answer { result ≡ (word_stands lowest (length (S.sectors image.now)) builder.old.laid word && allowed builder.old.nodes builder.old.laid (node_of (S.sectors image.now) word)) }
-    ensures nodes { builder.new.nodes ≡ (if result then slice_set builder.old.nodes builder.old.laid (node_of (S.sectors image.now) word) else builder.old.nodes) }
-    ensures laid { builder.new.laid ≡ (if result then builder.old.laid + 1 else builder.old.laid) }
+#[tactic(auto, using(crate::proofs::Saying::says_nothing))]
+fn lay_word<S: ImageStore>(
+    image: &S,
+    lowest: usize,
+    word: u32,
+    builder: &mut Builder,
+) -> Result<(), Misplaced>
+    ensures answer { is_ok result ≡ (word_stands lowest (length (S.sectors image.now)) builder.old.laid word && allowed builder.old.nodes builder.old.laid (node_of (S.sectors image.now) word)) }
+    ensures nodes { builder.new.nodes ≡ (if is_ok result then slice_set builder.old.nodes builder.old.laid (node_of (S.sectors image.now) word) else builder.old.nodes) }
+    ensures laid { builder.new.laid ≡ (if is_ok result then builder.old.laid + 1 else builder.old.laid) }
 {
-    if !word_stands(lowest, image.count(), builder.laid(), word) {
-        return false;
+    let said = NodeWord::read(word).ok_or(Misplaced)?;
+    if !said.stands(lowest, image.count(), builder.laid()) {
+        return Err(Misplaced);
     }
-    builder.lay(meaning(image, word)).is_ok()
+    builder.lay(meaning(image, said))
 }
 
 /// Reads the tree. On a fault `tree` is as it was.
@@ -70,22 +69,17 @@ pub fn read_tree<S: ImageStore>(image: &S, lowest: usize, tree: &mut Tree) -> Re
     let sector = fetch(image, 1);
     let mut builder = Builder::new();
     for k in 0..16 {
-        if !lay_word(image, lowest, word_at(&sector, k), &mut builder) {
-            return Err(Fault::NodeWord { node: k });
-        }
+        let fault = Fault::NodeWord { node: k };
+        lay_word(image, lowest, word_at(&sector, k), &mut builder).map_err(|_| fault)?;
     }
-    match builder.finish() {
-        Some(whole) => *tree = whole,
-        None => unreachable(),
-    }
+    *tree = builder.finish().unwrap();
     Ok(())
 }
 
 /// What an outcome says of the nodes.
-pub fn reading_laws() -> u8
+#[tactic(auto, using(crate::specs::Least::first_failing_lem), unfolding(crate::specs::Trees::tree_of))]
+pub fn reading_laws()
     ensures one { ToldOne }
     ensures tree { ToldTree }
     ensures fault { ToldFault }
-{
-    0
-}
+{}

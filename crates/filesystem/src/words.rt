@@ -1,12 +1,12 @@
 //! Words of 32 bits.
 ghost use Rattle.std.specs.Prelude.{◌≡◌, slice_index};
-ghost use Rattle.filesystem.specs.Words.{word_at, kind, rest, word_stands, data_stands, is_word};
+ghost use Rattle.filesystem.specs.Words.{word_at, kind, rest, is_word};
 
 /// Byte `i` of a sector, 0 past its end.
 fn byte_at(sector: &[u8], i: usize) -> u8
     ensures { result ≡ slice_index sector.now i }
 {
-    if i < sector.len() { sector[i] } else { 0 }
+    sector.get(i).copied().unwrap_or(0)
 }
 
 /// Word `i` of a sector, the least byte first; bytes past the sector's end count as 0.
@@ -41,31 +41,4 @@ pub fn is_word(word: u32, k: u32, n: u32) -> bool
     ensures { result ≡ is_word k n word }
 {
     kind_of(word) == k && rest_of(word) == n
-}
-
-/// Whether a file of `length` bytes may lie in `sector`.
-fn data_stands(lowest: usize, count: usize, length: u32, sector: u32) -> bool
-    ensures { result ≡ data_stands lowest count length sector }
-{
-    let sector = sector as usize;
-    if length == 0 {
-        sector == 0
-    } else {
-        lowest <= sector && sector < count
-    }
-}
-
-/// Whether `word` may be node `k`'s, by itself.
-pub fn word_stands(lowest: usize, count: usize, k: usize, word: u32) -> bool
-    ensures { result ≡ word_stands lowest count k word }
-{
-    if k == 0 {
-        return word == 0x4000_0000;
-    }
-    match word >> 30 {
-        0 => word == 0,
-        1 => word % 0x400_0000 == 0,
-        2 => (word >> 8) % 256 == 0 && data_stands(lowest, count, (word >> 16) % 1024, word % 256),
-        _ => false,
-    }
 }

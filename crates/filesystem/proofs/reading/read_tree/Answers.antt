@@ -1,42 +1,40 @@
 -- A word that fails is the lowest to fail; 16 that pass are the tree.
-use Rattle.std.proofs.Common.{◌≡◌, ◌+◌, ◌<◌, true, false, get_or, refl, ap, ◌∙◌, arith, rules, below_more}
+use Rattle.std.proofs.Common.{◌≡◌, ◌+◌, true, false, cond, is_ok, get_or, set, ap, ◌∙◌, arith, rules, below_more}
+use Rattle.std.proofs.lemmas.Grind.{common_steps}
 use Rattle.tree.specs.declared.node.Node.TheVariants.{Absent}
-use Rattle.filesystem.specs.Outcomes.{a_tree}
+use Rattle.filesystem.specs.Outcomes.{a_fault, told}
+use Rattle.filesystem.specs.declared.fault.Fault.TheVariants.{NodeWord}
 use Rattle.filesystem.specs.Words.{word_at}
-use Rattle.filesystem.specs.Trees.{node_word, node_stands}
+use Rattle.filesystem.specs.Trees.{node_of, node_word, node_stands}
 use Rattle.filesystem.proofs.Laying.{whole, broken, answered, more}
 use Rattle.filesystem.proofs.reading.read_tree.Goals as goal
 
-pub returns-then-not-lay_word : goal.returns-then-not-lay_word
-returns-then-not-lay_word g c =
+pub returns-in_err-map_err-clause-told : goal.returns-in_err-map_err-clause-told
+returns-in_err-map_err-clause-told g c =
     let im = g.S.ImageStore.sectors c.args.image.now in
     let k = c.loop-k.k in
+    let i = c.loop-k.invariant in
     let b = c.loop-k.builder in
-    let inside : k < 16 = omega arith in
-    let is : c.word_at.result ≡ node_word im k = c.word_at.ensures ∙ ap (λ s. word_at s k) c.fetch-sector.ensures in
-    let f : node_stands c.args.lowest im k ≡ false =
-    answered c.args.lowest im k inside c.loop-k.invariant.2 b.nodes c.loop-k.invariant.1 false c.word_at.result b.laid c.loop-k.invariant.0 is c.if-not-lay_word.ensures.answer in
-    record { told = broken c.args.lowest im k inside c.loop-k.invariant.2 f; tree = λ _. refl }
+    let is : c.word_at.result ≡ node_word im k = c.word_at.ensures ∙ ap (λ s. word_at s k) c.fetch-sector.ensures.sector in
+    let bad : is_ok c.lay_word.result ≡ false = search rules in
+    let fault : told c.from_residual.result c.args.tree.now.nodes ≡ a_fault (NodeWord k) = search rules in
+    fault ∙ broken c.args.lowest im k (omega arith) i.2 (answered c.args.lowest im k (omega arith) i.2 b.nodes i.1 _ c.word_at.result b.laid i.0 is c.lay_word.ensures.answer ∙ bad)
 
 pub loop-k-preserved : goal.loop-k-preserved
 loop-k-preserved g c =
     let im = g.S.ImageStore.sectors c.args.image.now in
     let k = c.loop-k.k in
+    let i = c.loop-k.invariant in
     let b = c.loop-k.builder in
-    let inside : k < 16 = omega arith in
-    let is : c.word_at.result ≡ node_word im k = c.word_at.ensures ∙ ap (λ s. word_at s k) c.fetch-sector.ensures in
-    let t : node_stands c.args.lowest im k ≡ true =
-    answered c.args.lowest im k inside c.loop-k.invariant.2 b.nodes c.loop-k.invariant.1 true c.word_at.result b.laid c.loop-k.invariant.0 is c.if-not-lay_word.ensures.answer in (
-      c.if-not-lay_word.ensures.laid ∙ ap (λ n. n + 1) c.loop-k.invariant.0,
-      (λ j l. ap (λ ns. get_or ns j Absent) c.if-not-lay_word.ensures.nodes ∙ more c.args.lowest im k inside c.loop-k.invariant.2 b.nodes c.loop-k.invariant.1 b.size c.word_at.result b.laid c.loop-k.invariant.0 is j l),
-      below_more _ k c.loop-k.invariant.2 t,
+    let w = c.word_at.result in
+    let is : w ≡ node_word im k = c.word_at.ensures ∙ ap (λ s. word_at s k) c.fetch-sector.ensures.sector in
+    let good : is_ok c.lay_word.result ≡ true = search rules in
+    let stands : node_stands c.args.lowest im k ≡ true = answered c.args.lowest im k (omega arith) i.2 b.nodes i.1 _ w b.laid i.0 is c.lay_word.ensures.answer ∙ good in
+    let laid : c.lay_word.new.builder.nodes ≡ set b.nodes b.laid (node_of im w) = c.lay_word.ensures.nodes ∙ ap (λ t. cond t (set b.nodes b.laid (node_of im w)) b.nodes) good in (
+      c.lay_word.ensures.laid ∙ ap (λ t. cond t (b.laid + 1) b.laid) good ∙ ap (λ n. n + 1) i.0,
+      (λ j l. ap (λ ns. get_or ns j Absent) laid ∙ more c.args.lowest im k (omega arith) i.2 b.nodes i.1 b.size w b.laid i.0 is j l),
+      below_more _ k i.2 stands,
     )
 
-pub returns : goal.returns
-returns g c =
-    let im = g.S.ImageStore.sectors c.args.image.now in
-    let b = c.loop-k.builder in
-    record {
-      told = ap a_tree c.in-Some.ensures.1 ∙ whole c.args.lowest im b.nodes b.size (λ j l. c.loop-k.invariant.1 j (omega arith)) (λ j l. c.loop-k.invariant.2 j (omega arith));
-      tree = search rules;
-    }
+pub returns-clause-told : goal.returns-clause-told
+returns-clause-told g c = grind (arith, common_steps, whole)
