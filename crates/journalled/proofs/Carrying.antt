@@ -8,7 +8,7 @@ use Rattle.journalled.specs.Journal.{sequence_of, size_of, stands, copied, advan
 use Rattle.journalled.specs.Puts.{put_same, put_other}
 use Rattle.journalled.specs.Transactions.{Transaction, Carried, home}
 use Rattle.journalled.specs.Copies.{length_copied}
-use Rattle.filesystem.specs.Sectors.{blank, sector_of, sector_long}
+use Rattle.image.specs.Fetched.{blank, sector_of, sector_long}
 use Rattle.journalled.proofs.Standing.{from_test, from_transaction, the_size}
 
 pub untouched : (im : Image) → ((k : ℕ) → Transaction im k → ⊥) → recovered im ≡ im

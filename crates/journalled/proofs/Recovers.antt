@@ -2,7 +2,7 @@
 use Rattle.std.proofs.Common.{◌≡◌, ℕ, ◌≤◌, Bool, true, false, cond, length, set, Some, None, sym, refl, ap, ◌∙◌, arith}
 use Rattle.image.specs.Sectors.{Image}
 use Rattle.journalled.specs.Journal.{size_of, stands, copied, advanced, replayed, recovered}
-use Rattle.filesystem.specs.Sectors.{sector_of}
+use Rattle.image.specs.Fetched.{sector_of}
 use Rattle.journalled.specs.Copies.{copied_kept}
 
 by_none : (b : Bool) (x y : Image) (n : ℕ) → None ≡ cond b (Some n) None → y ≡ cond b x y

@@ -1,11 +1,10 @@
 -- The image after the whole recovery.
-use Rattle.std.proofs.Common.{◌≡◌, ℕ, cond, Ok, Err, sym, ap, ◌∙◌, subst}
+use Rattle.std.proofs.Common.{rules, ◌≡◌, ℕ, cond, Ok, Err, sym, ap, ◌∙◌, subst}
 use Rattle.std.proofs.lemmas.Bool.{eq-eqb}
 use Rattle.image.specs.Sectors.{Image, Shaped}
 use Rattle.filesystem.specs.declared.fault.Fault.TheVariants.{Sequence}
 use Rattle.filesystem.specs.Words.{kind}
 use Rattle.filesystem.specs.Heads.{head_word}
-use Rattle.filesystem.proofs.Heading.{accepted}
 use Rattle.journalled.specs.Journal.{recovered, headed, sequenced, when_ok, journalled_after}
 use Rattle.journalled.specs.Transactions.{Formatted, Transaction, Carried}
 use Rattle.journalled.proofs.Carrying as carrying
@@ -17,7 +16,7 @@ module _ (im : Image) where
 
   module _ (f : Formatted im) where
     head_ok : headed im ≡ Ok tt
-    head_ok = (accepted 16 0x40000001 im).0 f.head
+    head_ok = search rules
 
     after_is : journalled_after im ≡ recovered im
     after_is =

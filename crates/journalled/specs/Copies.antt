@@ -6,7 +6,7 @@ use Rattle.std.proofs.lemmas.List.{length-set, get_or-set_other}
 use Rattle.std.proofs.lemmas.Bool.{and_parts}
 use Rattle.image.specs.Sectors.{Image}
 use Rattle.journalled.specs.Journal.{sequence_of, size_of, home_in, descriptor, describes, commits, stands, copied}
-use Rattle.filesystem.specs.Sectors.{blank, sector_of}
+use Rattle.image.specs.Fetched.{blank, sector_of}
 use Rattle.journalled.specs.Described.{home_is, size_few}
 
 module _ (im : Image) where

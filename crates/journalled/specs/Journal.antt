@@ -8,7 +8,7 @@ use Rattle.filesystem.specs.Outcomes.{Outcome}
 use Rattle.filesystem.specs.Words.{word_at, kind, rest, is_word}
 use Rattle.filesystem.specs.Heads.{head_word, head_of, unless}
 use Rattle.filesystem.specs.Trees.{tree_of}
-use Rattle.filesystem.specs.Sectors.{sector_of}
+use Rattle.image.specs.Fetched.{sector_of}
 use Rattle.journalled.specs.Below.{every, total}
 
 -- the image's sequence number

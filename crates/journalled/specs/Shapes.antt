@@ -5,7 +5,7 @@ use Rattle.std.proofs.lemmas.List.{length-set, get_or-set_same, get_or-set_other
 use Rattle.std.proofs.lemmas.Bool.{cases_eq, cases_lt}
 use Rattle.image.specs.Sectors.{Image, Sector, Bytes, Shaped}
 use Rattle.filesystem.specs.declared.fault.Fault.{Fault}
-use Rattle.filesystem.specs.Sectors.{sector_of, sector_long, sector_bytes, set_shaped}
+use Rattle.image.specs.Fetched.{sector_of, sector_long, sector_bytes, set_shaped}
 use Rattle.filesystem.specs.Words.{word_at, rest}
 use Rattle.journalled.specs.Journal.{size_of, home_in, descriptor, stands, copied, put_word, advanced, replayed, recovered, headed, sequenced, when_ok, journalled_after}
 use Rattle.journalled.specs.Puts.{length_put}

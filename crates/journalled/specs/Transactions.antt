@@ -8,7 +8,7 @@ use Rattle.filesystem.specs.Heads.{head_word, head_of}
 use Rattle.filesystem.specs.Headed.{Headed}
 use Rattle.filesystem.specs.Outcomes.{a_fault}
 use Rattle.filesystem.specs.Trees.{tree_of}
-use Rattle.filesystem.specs.Sectors.{sector_of}
+use Rattle.image.specs.Fetched.{sector_of}
 use Rattle.journalled.specs.Journal.{sequence_of, descriptor, home_in, journal_sum, stands, journalled_outcome, journalled_after}
 
 -- word i of sector n

@@ -1,12 +1,12 @@
 //! Carries a transaction out.
 ghost use Rattle.std.specs.Prelude.{◌≡◌, ◌<◌, ◌≤◌, true, length, slice_set};
-ghost use Rattle.filesystem.specs.Sectors.{sector_of};
+ghost use Rattle.image.specs.Fetched.{sector_of};
 ghost use Rattle.journalled.specs.Journal.{size_of, stands, copied, put_word, advanced, recovered};
 
 use crate::descriptor::home_in;
 use crate::transaction::standing;
-use filesystem::{fetch, rest_of, word_at};
-use image::{ImageStore, copy_sector};
+use filesystem::{rest_of, word_at};
+use image::{ImageStore, copy_sector, fetch};
 
 /// Copies sector `from` to sector `to`.
 fn copy<S: ImageStore>(image: &mut S, from: usize, to: usize)

@@ -2,8 +2,8 @@
 ghost use Rattle.std.specs.Prelude.{◌≡◌, ◌%◌, ◌^◌, ◌≤◌};
 ghost use Rattle.journalled.specs.Journal.{word_sum, journal_sum};
 
-use filesystem::{fetch, rest_of, word_at};
-use image::ImageStore;
+use filesystem::{rest_of, word_at};
+use image::{ImageStore, fetch};
 
 /// The sum of a sector's words.
 fn sector_sum(sector: &[u8]) -> u32

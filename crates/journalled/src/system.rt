@@ -5,8 +5,8 @@ ghost use Rattle.journalled.specs.Shapes.{after_count, after_shaped};
 ghost use Rattle.std.proofs.Common.{lit≤};
 
 use crate::replay::restore;
-use filesystem::{Fault, FileSystem, check_head, fetch, kind_of, read_tree, word_at};
-use image::ImageStore;
+use filesystem::{Fault, FileSystem, check_head, kind_of, read_tree, word_at};
+use image::{ImageStore, fetch};
 use tree::Tree;
 
 /// The journalled file system.

@@ -4,8 +4,8 @@ ghost use Rattle.journalled.specs.Journal.{sequence_of, size_of, commits, stands
 
 use crate::descriptor::{is_described, size_in};
 use crate::sums::journal_sum;
-use filesystem::{fetch, is_word, rest_of, word_at};
-use image::ImageStore;
+use filesystem::{is_word, rest_of, word_at};
+use image::{ImageStore, fetch};
 
 /// The image's sequence number.
 fn sequence_of<S: ImageStore>(image: &S) -> u32

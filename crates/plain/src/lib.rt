@@ -49,6 +49,7 @@ pub fn laws()
 {}
 
 /// Worked examples of the layout.
+#[tactic(auto, unfolding(tree::specs::Rules::allowed, image::specs::Fetched::blank, filesystem::specs::Least::first_failing, filesystem::specs::Words::word_at, filesystem::specs::Trees::node_at, filesystem::specs::Trees::nodes_of, filesystem::specs::Trees::node_stands, filesystem::specs::Trees::tree_of))]
 pub fn examples()
     ensures reads { Reads }
     ensures parent { NoParent }

@@ -1,6 +1,6 @@
 -- The copied sector is one of the image.
 use Rattle.std.proofs.Common.{set, ap, ◌∙◌}
-use Rattle.filesystem.specs.Sectors.{sector_is}
+use Rattle.image.specs.Fetched.{sector_is}
 use Rattle.journalled.proofs.replay.copy.Goals as goal
 
 pub returns : goal.returns

@@ -3,7 +3,7 @@ use Rattle.std.proofs.Common.{length, set, ap, ◌∙◌, arith}
 use Rattle.journalled.specs.Journal.{size_of, stands, advanced}
 use Rattle.journalled.specs.Copies.{length_copied}
 use Rattle.journalled.proofs.Recovers.{none_stands, one_stands, carried}
-use Rattle.filesystem.specs.Sectors.{sector_of}
+use Rattle.image.specs.Fetched.{sector_of}
 use Rattle.journalled.proofs.replay.restore.Goals as goal
 
 pub returns-in_default : goal.returns-in_default

@@ -2,7 +2,7 @@
 use Rattle.std.proofs.Common.{◌≡◌, ◌+◌, ◌%◌, ◌^◌}
 use Rattle.journalled.specs.Below.{total}
 use Rattle.journalled.specs.Journal.{word_sum}
-use Rattle.filesystem.specs.Sectors.{sector_of}
+use Rattle.image.specs.Fetched.{sector_of}
 use Rattle.journalled.proofs.sums.journal_sum.Given as goal
 
 abbrev pub invariant-loop-j : goal.invariant-loop-j
