@@ -6,28 +6,11 @@ mod trees {
     use std::test::Fail;
     use tree::{Builder, Misplaced, NODES, Node, Tree, print};
 
-    // A node that is laid third, and whether it may stand there.
-    #[derive(Clone, Copy)]
-    struct Third {
-        node: Node,
-        placed: bool,
-    }
-
-    fn directory(parent: u8, placed: bool) -> Third {
-        Third {
-            node: Node::Directory { parent },
-            placed,
-        }
-    }
-
-    fn file(parent: u8, length: u16, placed: bool) -> Third {
-        Third {
-            node: Node::File {
-                parent,
-                length,
-                print: 7,
-            },
-            placed,
+    fn file(parent: u8, length: u16) -> Node {
+        Node::File {
+            parent,
+            length,
+            print: 7,
         }
     }
 
@@ -67,28 +50,40 @@ mod trees {
 
     #[test]
     fn third_node(rt: HostRuntime) -> Result<(), Fail> {
-        let thirds = [
-            directory(0, true),
-            directory(1, false),
-            directory(2, false),
-            directory(3, false),
-            directory(15, false),
-            directory(16, false),
-            directory(255, false),
-            file(0, 0, true),
-            file(0, 511, true),
-            file(0, 512, true),
-            file(0, 513, false),
-            file(0, 65535, false),
-            file(1, 1, false),
-            file(2, 1, false),
-            file(3, 1, false),
-            file(255, 1, false),
+        let placed = [
+            Node::Directory { parent: 0 },
+            file(0, 0),
+            file(0, 511),
+            file(0, 512),
         ];
-        for third in thirds.iter() {
+        for node in placed.iter() {
             let mut builder = two_nodes()?;
-            assert_eq!(rt; builder.lay(third.node).is_ok(), third.placed);
-            assert_eq!(rt; builder.laid(), if third.placed { 3 } else { 2 });
+            assert!(rt; builder.lay(*node) == Ok(()));
+            assert_eq!(rt; builder.laid(), 3);
+        }
+        Ok(())
+    }
+
+    #[test]
+    fn third_node_misplaced(rt: HostRuntime) -> Result<(), Fail> {
+        let misplaced = [
+            Node::Directory { parent: 1 },
+            Node::Directory { parent: 2 },
+            Node::Directory { parent: 3 },
+            Node::Directory { parent: 15 },
+            Node::Directory { parent: 16 },
+            Node::Directory { parent: 255 },
+            file(0, 513),
+            file(0, 65535),
+            file(1, 1),
+            file(2, 1),
+            file(3, 1),
+            file(255, 1),
+        ];
+        for node in misplaced.iter() {
+            let mut builder = two_nodes()?;
+            assert!(rt; builder.lay(*node) == Err(Misplaced));
+            assert_eq!(rt; builder.laid(), 2);
         }
         Ok(())
     }
@@ -123,9 +118,7 @@ mod trees {
         assert!(rt; builder.lay(Node::Absent) == Err(Misplaced));
         assert!(rt; builder.lay(Node::Directory { parent: 0 }) == Err(Misplaced));
         assert_eq!(rt; builder.laid(), 16);
-        let Some(tree) = builder.finish() else {
-            return Err(Fail::new("no tree"));
-        };
+        let tree = builder.finish().ok_or_else(|| Fail::new("no tree"))?;
         assert!(rt; tree.node(15) == Node::Directory { parent: 0 });
         assert!(rt; tree.node(16) == Node::Absent);
         assert!(rt; tree.node(usize::MAX) == Node::Absent);
@@ -141,9 +134,7 @@ mod trees {
         for parent in 0..15u8 {
             assert!(rt; builder.lay(Node::Directory { parent }) == Ok(()));
         }
-        let Some(tree) = builder.finish() else {
-            return Err(Fail::new("no tree"));
-        };
+        let tree = builder.finish().ok_or_else(|| Fail::new("no tree"))?;
         assert_eq!(rt; tree.parent(15), Some(14));
         Ok(())
     }
@@ -172,13 +163,6 @@ mod trees {
 #[cfg(test)]
 mod marks {
     use mark::{Mark, Refusal, read_mark};
-
-    // A text, and the mark that spells it.
-    #[derive(Clone, Copy)]
-    struct Spelled<'a> {
-        text: &'a str,
-        mark: Mark,
-    }
 
     // Texts that no mark spells, by the letter that they look like.
     const NO_FILES: [&str; 43] = [
@@ -323,10 +307,6 @@ mod marks {
         "w 1",
     ];
 
-    fn told(text: &str, mark: Mark) -> Spelled<'_> {
-        Spelled { text, mark }
-    }
-
     fn file(node: u8, parent: u8, length: u16, print: u32) -> Mark {
         Mark::File {
             node,
@@ -343,28 +323,28 @@ mod marks {
     #[test]
     fn marks_spelled(rt: HostRuntime) {
         let cases = [
-            told("f 1 0 0 00000000", file(1, 0, 0, 0)),
-            told("f 15 14 512 ffffffff", file(15, 14, 512, 0xffff_ffff)),
-            told("f 9 8 511 0123abcd", file(9, 8, 511, 0x0123_abcd)),
-            told("f 2 1 10 80000000", file(2, 1, 10, 0x8000_0000)),
-            told("d 1 0", directory(1, 0)),
-            told("d 15 0", directory(15, 0)),
-            told("d 15 14", directory(15, 14)),
-            told("x 1", Mark::Absent { node: 1 }),
-            told("x 15", Mark::Absent { node: 15 }),
-            told("s 1", Mark::Sync { node: 1 }),
-            told("s 10", Mark::Sync { node: 10 }),
-            told("s 15", Mark::Sync { node: 15 }),
-            told("#", Mark::Comment),
-            told("# ", Mark::Comment),
-            told("#x", Mark::Comment),
-            told("# x 1", Mark::Comment),
-            told("##", Mark::Comment),
-            told("# dm-log-writes-end", Mark::Comment),
-            told("dm-log-writes-end", Mark::Comment),
+            ("f 1 0 0 00000000", file(1, 0, 0, 0)),
+            ("f 15 14 512 ffffffff", file(15, 14, 512, 0xffff_ffff)),
+            ("f 9 8 511 0123abcd", file(9, 8, 511, 0x0123_abcd)),
+            ("f 2 1 10 80000000", file(2, 1, 10, 0x8000_0000)),
+            ("d 1 0", directory(1, 0)),
+            ("d 15 0", directory(15, 0)),
+            ("d 15 14", directory(15, 14)),
+            ("x 1", Mark::Absent { node: 1 }),
+            ("x 15", Mark::Absent { node: 15 }),
+            ("s 1", Mark::Sync { node: 1 }),
+            ("s 10", Mark::Sync { node: 10 }),
+            ("s 15", Mark::Sync { node: 15 }),
+            ("#", Mark::Comment),
+            ("# ", Mark::Comment),
+            ("#x", Mark::Comment),
+            ("# x 1", Mark::Comment),
+            ("##", Mark::Comment),
+            ("# dm-log-writes-end", Mark::Comment),
+            ("dm-log-writes-end", Mark::Comment),
         ];
-        for c in cases.iter() {
-            assert!(rt; read_mark(c.text.as_bytes()) == Ok(c.mark));
+        for (text, mark) in cases.iter() {
+            assert!(rt; read_mark(text.as_bytes()) == Ok(*mark));
         }
     }
 
@@ -376,39 +356,36 @@ mod marks {
         }
     }
 
+    // Whether no mark spells any of the texts.
+    fn all_declined(texts: &[&str]) -> bool {
+        texts
+            .iter()
+            .all(|text| read_mark(text.as_bytes()) == Err(Refusal::NoMark))
+    }
+
     #[test]
     fn no_file(rt: HostRuntime) {
-        for text in NO_FILES.iter() {
-            assert!(rt; read_mark(text.as_bytes()) == Err(Refusal::NoMark));
-        }
+        assert!(rt; all_declined(&NO_FILES));
     }
 
     #[test]
     fn no_directory(rt: HostRuntime) {
-        for text in NO_DIRECTORIES.iter() {
-            assert!(rt; read_mark(text.as_bytes()) == Err(Refusal::NoMark));
-        }
+        assert!(rt; all_declined(&NO_DIRECTORIES));
     }
 
     #[test]
     fn no_absent_node(rt: HostRuntime) {
-        for text in NO_ABSENTS.iter() {
-            assert!(rt; read_mark(text.as_bytes()) == Err(Refusal::NoMark));
-        }
+        assert!(rt; all_declined(&NO_ABSENTS));
     }
 
     #[test]
     fn no_sync(rt: HostRuntime) {
-        for text in NO_SYNCS.iter() {
-            assert!(rt; read_mark(text.as_bytes()) == Err(Refusal::NoMark));
-        }
+        assert!(rt; all_declined(&NO_SYNCS));
     }
 
     #[test]
     fn no_mark_at_all(rt: HostRuntime) {
-        for text in OTHERS.iter() {
-            assert!(rt; read_mark(text.as_bytes()) == Err(Refusal::NoMark));
-        }
+        assert!(rt; all_declined(&OTHERS));
     }
 
     #[test]
