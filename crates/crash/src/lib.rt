@@ -8,71 +8,51 @@ ghost use Rattle.crash.specs.EffectLaws.{EffectsAreTheEntries};
 ghost use Rattle.crash.specs.Examples.{Examples};
 
 /// What every other fact here uses of when a write is durable.
-pub fn durable_laws() -> u8
+pub fn durable_laws()
     ensures { DurableLaws }
-{
-    0
-}
+{}
 
 /// The effects of entries write what the entries write.
-pub fn effects_are_the_entries() -> u8
+pub fn effects_are_the_entries()
     ensures { EffectsAreTheEntries }
-{
-    0
-}
+{}
 
 /// The numbers of a sector are those that are not struck out, in order, and never none.
-pub fn numbers_are_the_rules() -> u8
+pub fn numbers_are_the_rules()
     ensures { NumbersAreTheRules }
-{
-    0
-}
+{}
 
 /// The candidates of a sector are those of the rules, no content twice, in order.
-pub fn candidates_are_the_rules() -> u8
+pub fn candidates_are_the_rules()
     ensures { CandidatesAreTheRules }
-{
-    0
-}
+{}
 
 /// The states of a point are the permitted images, none twice, and how many they are.
-pub fn states_are_the_permitted() -> u8
+pub fn states_are_the_permitted()
     ensures { StatesArePermitted }
-{
-    0
-}
+{}
 
 /// The state of each rank, and that the ranks climb in lexicographic order.
-pub fn ranks_are_lexicographic() -> u8
+pub fn ranks_are_lexicographic()
     ensures { RanksAreLexicographic }
-{
-    0
-}
+{}
 
 /// The list has every state of every point, in order.
-pub fn list_is_the_states() -> u8
+pub fn list_is_the_states()
     ensures { ListIsTheStates }
-{
-    0
-}
+{}
 
 /// A sector's history holds its candidates, before and after equal ones are left out.
-pub fn history_gives_the_candidates() -> u8
+pub fn history_gives_the_candidates()
     ensures { HistoryGivesTheCandidates }
-{
-    0
-}
+{}
 
 /// A node's history holds its candidates.
-pub fn nodes_are_the_rules() -> u8
+pub fn nodes_are_the_rules()
     ensures { NodesAreTheRules }
-{
-    0
-}
+{}
 
 /// Small recordings.
-pub fn examples_stand() -> u8
+pub fn examples_stand()
     ensures { Examples }
-{
-    0
-}
+{}

@@ -5,17 +5,13 @@
 ghost use Rattle.law.specs.Law.{EveryCallIsAnswered, EveryHistoryIsLawful, SomeRunIsSafe, TheLawDecides};
 
 /// Whatever calls are made of a run, its history keeps the law.
-pub fn law_stands() -> u8
+pub fn law_stands()
     ensures { EveryHistoryIsLawful }
-{
-    0
-}
+{}
 
 /// No two answers to a call both keep the law, unless memory is wanting; every call has an answer; and some run is safe.
-pub fn law_decides() -> u8
+pub fn law_decides()
     ensures one { TheLawDecides }
     ensures some { EveryCallIsAnswered }
     ensures safe { SomeRunIsSafe }
-{
-    0
-}
+{}

@@ -4,8 +4,6 @@
 ghost use Rattle.meaning.specs.Subjects.{MeaningIsTheRules};
 
 /// What load takes means what the rules of crash states and of marks say.
-pub fn meaning_is_the_rules() -> u8
+pub fn meaning_is_the_rules()
     ensures { MeaningIsTheRules }
-{
-    0
-}
+{}
