@@ -1,25 +1,22 @@
 //! What the entries of a trace write.
-ghost use Rattle.std.specs.Prelude.{◌≡◌, ℕ, ◌+◌, [], length, vec_len, slice_index_or};
+ghost use Rattle.std.specs.Prelude.{◌≡◌, ℕ, ◌<◌, ◌≤◌, [], length, MatchOption};
 ghost use Rattle.crash.specs.Rules.{content};
-ghost use Rattle.trace.specs.Meaning.{idle, covering, step_at, step_effect, effects_of, content_at};
+ghost use Rattle.trace.specs.Meaning.{HasNoEntry, contents_of, covering, step_at, step_effect, effects_of, content_at};
 
-use crate::steps::{Source, Step, Trace};
-use mark::Mark;
+use crate::steps::{Contents, Step, Trace};
 use std::alloc::Global;
 
 static ZEROS: [u8; 512] = [0; 512];
 
-/// A step that does nothing.
-fn idle_step() -> Step
-    ensures { result ≡ idle }
-{
-    Step {
-        flush: false,
-        fua: false,
-        first: 0,
-        sectors: 0,
-        source: Source::Zeros,
-        mark: Mark::Comment,
+impl Contents {
+    /// How many sectors there are.
+    fn len(&self) -> usize
+        ensures { result ≡ length (contents_of self.now) }
+    {
+        match self {
+            Contents::Zeros(count) => *count,
+            Contents::Data(sectors) => sectors.len(),
+        }
     }
 }
 
@@ -28,19 +25,29 @@ impl Step {
     pub fn covers(&self, sector: usize) -> bool
         ensures { result ≡ covering self.now sector }
     {
-        sector >= self.first && sector - self.first < self.sectors as usize
+        sector >= self.first && sector - self.first < self.contents.len()
+    }
+
+    /// What the step writes to a sector; nothing where it does not write it.
+    fn written(&self, sector: usize) -> &[u8]
+        ensures { result.now ≡ content (step_effect self.now) sector }
+    {
+        let i = sector.saturating_sub(self.first);
+        match &self.contents {
+            Contents::Zeros(count) if i < *count => &ZEROS,
+            Contents::Zeros(_) => &[],
+            Contents::Data(sectors) => sectors.get(i).map_or(&[], |data| data.as_slice()),
+        }
     }
 }
 
 impl Trace {
     /// A trace of no entries.
     pub fn new(heap: Global) -> Trace
-        ensures steps { result.steps.items ≡ [] }
-        ensures sectors { result.sectors.items ≡ [] }
+        ensures { result.steps.items ≡ [] }
     {
         Trace {
             steps: Vec::new(heap),
-            sectors: Vec::new(heap),
         }
     }
 
@@ -51,39 +58,11 @@ impl Trace {
         self.steps.len()
     }
 
-    /// What entry `k` does, from 1; a number that no entry has does nothing.
-    pub fn step(&self, k: usize) -> Step
-        ensures { result ≡ step_at self.now.steps.items k }
+    /// What entry `k` does, from 1; nothing where no entry has that number.
+    pub fn step(&self, k: usize) -> Option<&Step>
+        ensures { MatchOption result (HasNoEntry self.now k) (λ step. (step.now ≡ step_at self.now.steps.items k) × (0 < k) × (k ≤ length self.now.steps.items)) }
     {
-        if k == 0 || k > self.steps.len() {
-            return idle_step();
-        }
-        self.steps[k - 1]
-    }
-
-    /// Data sector `k`; past the last there is none.
-    fn data_sector(&self, k: usize) -> &[u8]
-        ensures { result.now ≡ slice_index_or self.now.sectors.items k [] }
-    {
-        if k < self.sectors.len() {
-            &self.sectors[k]
-        } else {
-            &[]
-        }
-    }
-
-    /// What a step writes to a sector.
-    fn written(&self, step: Step, sector: usize) -> &[u8]
-        ensures { result.now ≡ content (step_effect self.now.sectors.items step) sector }
-    {
-        let i = sector.saturating_sub(step.first);
-        if i >= step.sectors as usize {
-            return &[];
-        }
-        match step.source {
-            Source::Zeros => &ZEROS,
-            Source::Data { from } => self.data_sector(from as usize + i),
-        }
+        self.steps.get(k.checked_sub(1)?)
     }
 
     /// The content of a sector with a number: `base` with number 0, else what that entry writes.
@@ -93,6 +72,6 @@ impl Trace {
         if number == 0 {
             return base;
         }
-        self.written(self.step(number), sector)
+        self.step(number).map_or(&[], |step| step.written(sector))
     }
 }

@@ -1,29 +1,27 @@
 //! The steps of a recording, one for each entry.
 use mark::Mark;
 
-/// Where the new contents of sectors come from.
-#[derive(Clone, Copy, Debug)]
-pub enum Source {
-    /// Zeros.
-    Zeros,
-    /// The recording's data sectors from this number on.
-    Data { from: u32 },
+/// The new contents of the sectors that an entry writes.
+#[derive(Debug, Drop)]
+pub enum Contents {
+    /// So many sectors of zeros.
+    Zeros(usize),
+    /// These sectors.
+    Data(Vec<[u8; 512]>),
 }
 
-/// What an entry does: it writes so many sectors from `first` on, and says a mark.
-#[derive(Clone, Copy, Debug)]
+/// What an entry does: it writes contents to the sectors from `first` on, and says a mark.
+#[derive(Debug, Drop)]
 pub struct Step {
     pub flush: bool,
     pub fua: bool,
     pub first: usize,
-    pub sectors: u32,
-    pub source: Source,
+    pub contents: Contents,
     pub mark: Mark,
 }
 
-/// The steps of a recording, and its data sectors.
+/// The steps of a recording.
 #[derive(Drop)]
 pub struct Trace {
     pub steps: Vec<Step>,
-    pub sectors: Vec<[u8; 512]>,
 }
