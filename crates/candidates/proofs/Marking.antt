@@ -1,32 +1,14 @@
 -- A node's history, mark by mark.
 use Rattle.std.proofs.Common.{◌≡◌, ℕ, ◌+◌, ◌<◌, ◌≤◌, Bool, true, false, cond, leb, List, [], ◌∷◌, length, vec_items, sym, refl, ap, ◌∙◌, subst, inl, inr, add-one, arith}
-use Rattle.std.proofs.lemmas.List.{get_or-map, get_or_past, length-map}
 use Rattle.std.proofs.lemmas.Bool.{cases_lt, le-leb, leb-true, leb-false}
 use Rattle.tree.specs.declared.node.Node.{Node}
 use Rattle.mark.specs.declared.mark.Mark.{Mark}
-use Rattle.mark.specs.declared.mark.Mark.TheVariants.{Comment}
 use Rattle.crash.specs.Walk.{settle}
 use Rattle.crash.specs.Nodes.{mark_at, node_turn, node_values}
-use Rattle.trace.specs.declared.steps.Trace.{Trace}
-use Rattle.trace.specs.declared.steps.Step.{Step}
-use Rattle.trace.specs.Meaning.{idle, step_at, marks_of}
 use Rattle.candidates.specs.Gathering.{FirstAbove, NoneAbove}
 use Rattle.candidates.specs.Noding.{values_at}
 use Rattle.candidates.proofs.Turning.{length_flushed}
 use Rattle.candidates.proofs.Walking.{none_above_more}
-
--- the mark of a number is that of its step
-pub mark_one : (t : Trace) (k : ℕ) → mark_at (marks_of t) (k + 1) ≡ (step_at (vec_items t.steps) (k + 1)).mark
-unfolding marks_of
-mark_one t k =
-    ap (mark_at (marks_of t)) (add-one k)
-    ∙ elim (cases_lt k (length (vec_items t.steps))) [
-      | inl l ↦ get_or-map (λ s. s.mark) (vec_items t.steps) k idle Comment l
-      | inr g ↦
-          get_or_past (marks_of t) k Comment (subst (λ (n : ℕ). n ≤ k) (sym (length-map (vec_items t.steps) (λ s. s.mark))) g)
-          ∙ ap (λ (s : Step). s.mark) (sym (get_or_past (vec_items t.steps) k idle g))
-    ]
-    ∙ ap (λ n. (step_at (vec_items t.steps) n).mark) (sym (add-one k))
 
 module _ (start : Node) (marks : List Mark) (n : ℕ) where
   values_start : node_values start marks n 0 ≡ start ∷ []

@@ -1,6 +1,7 @@
 -- The numbers of a point from those of the point before.
-use Rattle.std.proofs.Common.{◌≡◌, ℕ, suc, ◌+◌, ◌<◌, ◌≤◌, true, false, cond, leb, List, [], ◌∷◌, length, get_or, vec_items, sym, ap, ◌∙◌, subst, inl, inr, add-one, arith}
+use Rattle.std.proofs.Common.{◌≡◌, ℕ, suc, ◌+◌, ◌<◌, ◌≤◌, true, false, cond, leb, List, [], ◌∷◌, ◌++◌, length, get_or, vec_items, sym, ap, ◌∙◌, subst, inl, inr, add-one, arith}
 use Rattle.std.proofs.lemmas.Bool.{cases_lt, leb-true, leb-false}
+use Rattle.std.proofs.lemmas.Bool.Decides.{nat_tests}
 use Rattle.image.specs.Sectors.{Image}
 use Rattle.crash.specs.Rules.{effect_at}
 use Rattle.crash.specs.States.{numbers}
@@ -8,10 +9,19 @@ use Rattle.crash.specs.Walk.{settle, turn, walk}
 use Rattle.crash.proofs.Walking.{walk_numbers}
 use Rattle.trace.specs.declared.steps.Trace.{Trace}
 use Rattle.trace.specs.declared.steps.Step.{Step}
-use Rattle.trace.specs.Meaning.{idle, recording_of}
-use Rattle.trace.proofs.Writing.{effect_one, covers_writes}
-use Rattle.candidates.specs.Turns.{written_by, turned}
+use Rattle.trace.specs.Meaning.{HasNoEntry, covering, idle, recording_of}
+use Rattle.trace.proofs.Writing.{effect_one, no_step}
+use Rattle.candidates.specs.Turns.{stepped, turned}
 use Rattle.candidates.specs.Gathering.{FirstAbove, NoneAbove, numbers_at}
+
+idle_passes : (s : ℕ) → covering idle s ≡ false
+idle_passes s = grind (arith, nat_tests)
+
+-- no entry, so it leaves a history as it is
+pub turned_past : (t : Trace) (s k : ℕ) (held : List ℕ) → HasNoEntry t k → turned t s k held ≡ held
+unfolding turned
+turned_past t s k held h =
+    ap (λ e. stepped e s k held) (no_step t k h) ∙ ap (λ b. cond b (held ++ k ∷ []) held) (idle_passes s)
 
 module _ (base : Image) (t : Trace) (s : ℕ) where
   -- the effect of an entry turns a history as its step does
@@ -19,13 +29,6 @@ module _ (base : Image) (t : Trace) (s : ℕ) where
   unfolding turned
   turn_step k held =
       ap (λ e. turn e s (suc k) held) (effect_one t k)
-      ∙ sym (ap (λ b. cond b (written_by step.fua (suc k) after) after) (covers_writes (vec_items t.sectors) step s))
-    where
-      step : Step
-      step = get_or (vec_items t.steps) k idle
-
-      after : List ℕ
-      after = cond step.flush (settle held) held
 
   pub numbers_start : numbers (recording_of base t) 0 s ≡ 0 ∷ []
   unfolding walk

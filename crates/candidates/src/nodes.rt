@@ -76,7 +76,7 @@ pub fn node_values(
     let mut cells = [Node::Absent; CELLS];
     let mut history = History::start(&mut cells, start);
     for k in 0..point {
-        match turn_node(&mut history, trace.step(k + 1).mark, node) {
+        match turn_node(&mut history, trace.mark(k + 1), node) {
             Ok(()) => {}
             Err(_) => return Err(Refusal::Candidates { point: k + 1 }),
         }

@@ -25,7 +25,9 @@ fn turn(
     ensures values { is_ok result ≡ true → held history.new ≡ turned trace.now sector number (held history.old) }
     ensures cells { length history.new.cells.now ≡ 8 }
 {
-    let step = trace.step(number);
+    let Some(step) = trace.step(number) else {
+        return Ok(());
+    };
     settle_if(history, step.flush);
     if step.covers(sector) {
         write(history, number, step.fua)

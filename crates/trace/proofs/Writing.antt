@@ -1,12 +1,14 @@
 -- What steps write, and the step and the effect of each number.
-use Rattle.std.proofs.Common.{◌≡◌, ℕ, zero, suc, ◌-◌, ◌<◌, ◌≤◌, List, [], length, get_or, vec_items, sym, ap, ◌∙◌, subst, inl, inr, arith}
+use Rattle.std.proofs.Common.{◌≡◌, ℕ, zero, suc, ◌-◌, ◌<◌, ◌≤◌, List, [], length, get_or, vec_items, sym, refl, ap, ◌∙◌, subst, inl, inr, arith}
 use Rattle.std.proofs.lemmas.List.{get_or_past, get_or-map, length-map}
 use Rattle.std.proofs.lemmas.Bool.{cases_lt}
 use Rattle.image.specs.Sectors.{Sector}
+use Rattle.mark.specs.declared.mark.Mark.TheVariants.{Comment}
+use Rattle.crash.specs.Nodes.{mark_at}
 use Rattle.crash.specs.Rules.{content, nothing}
 use Rattle.trace.specs.declared.steps.Step.{Step}
 use Rattle.trace.specs.declared.steps.Trace.{Trace}
-use Rattle.trace.specs.Meaning.{step_effect, idle, step_at, effects_of, content_at}
+use Rattle.trace.specs.Meaning.{HasNoEntry, step_effect, idle, step_at, effects_of, marks_of, content_at}
 
 pub step_one : (steps : List Step) (k : ℕ) → 0 < k → step_at steps k ≡ get_or steps (k - 1) idle
 step_one steps zero h = absurd (omega arith)
@@ -32,6 +34,26 @@ content_of t base s (suc i) h = ap (λ e. content e s) (effect_one t i)
 -- a number above the last has no content
 pub content_past : (t : Trace) (base : Sector) (s j : ℕ) → 0 < j → length (vec_items t.steps) < j → content_at base (effects_of t) s j ≡ []
 content_past t base s j h l = content_of t base s j h ∙ ap (λ e. content (step_effect e) s) (step_none (vec_items t.steps) j l)
+
+-- no entry, so a step that does nothing
+pub no_step : (t : Trace) (k : ℕ) → HasNoEntry t k → step_at (vec_items t.steps) k ≡ idle
+no_step t k (inl e) = ap (step_at (vec_items t.steps)) e
+no_step t k (inr l) = step_none (vec_items t.steps) k l
+
+-- the mark of a number is that of its step
+pub mark_of_step : (t : Trace) (k : ℕ) → mark_at (marks_of t) k ≡ (step_at (vec_items t.steps) k).mark
+unfolding marks_of
+mark_of_step t zero = refl
+mark_of_step t (suc i) = elim (cases_lt i (length (vec_items t.steps))) [
+  | inl l ↦ get_or-map (λ s. s.mark) (vec_items t.steps) i idle Comment l
+  | inr g ↦
+      get_or_past (marks_of t) i Comment (subst (λ (n : ℕ). n ≤ i) (sym (length-map (vec_items t.steps) (λ s. s.mark))) g)
+      ∙ ap (λ (s : Step). s.mark) (sym (get_or_past (vec_items t.steps) i idle g))
+]
+
+-- no entry, so a comment
+pub mark_past : (t : Trace) (k : ℕ) → HasNoEntry t k → mark_at (marks_of t) k ≡ Comment
+mark_past t k h = mark_of_step t k ∙ ap (λ (s : Step). s.mark) (no_step t k h)
 
 pub effects_length : (t : Trace) → length (effects_of t) ≡ length (vec_items t.steps)
 unfolding effects_of

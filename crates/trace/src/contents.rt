@@ -1,9 +1,11 @@
 //! What the entries of a trace write.
 ghost use Rattle.std.specs.Prelude.{◌≡◌, ℕ, ◌<◌, ◌≤◌, [], length, MatchOption};
+ghost use Rattle.crash.specs.Nodes.{mark_at};
 ghost use Rattle.crash.specs.Rules.{content};
-ghost use Rattle.trace.specs.Meaning.{HasNoEntry, contents_of, covering, step_at, step_effect, effects_of, content_at};
+ghost use Rattle.trace.specs.Meaning.{HasNoEntry, contents_of, covering, step_at, step_effect, effects_of, marks_of, content_at};
 
 use crate::steps::{Contents, Step, Trace};
+use mark::Mark;
 use std::alloc::Global;
 
 static ZEROS: [u8; 512] = [0; 512];
@@ -63,6 +65,13 @@ impl Trace {
         ensures { MatchOption result (HasNoEntry self.now k) (λ step. (step.now ≡ step_at self.now.steps.items k) × (0 < k) × (k ≤ length self.now.steps.items)) }
     {
         self.steps.get(k.checked_sub(1)?)
+    }
+
+    /// The mark of entry `k`, from 1; a comment where no entry has that number.
+    pub fn mark(&self, k: usize) -> Mark
+        ensures { result ≡ mark_at (marks_of self.now) k }
+    {
+        self.step(k).map_or(Mark::Comment, |step| step.mark)
     }
 
     /// The content of a sector with a number: `base` with number 0, else what that entry writes.

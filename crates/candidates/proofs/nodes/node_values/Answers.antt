@@ -2,11 +2,10 @@
 use Rattle.std.proofs.Common.{◌≡◌, ℕ, sym, refl, ap, ◌∙◌, subst, arith, rules}
 use Rattle.history.specs.Held.{held}
 use Rattle.crash.specs.Nodes.{node_values}
-use Rattle.trace.specs.declared.steps.Step.{Step}
 use Rattle.trace.specs.Meaning.{marks_of}
 use Rattle.candidates.specs.Gathering.{NoneAbove}
 use Rattle.candidates.specs.Noding.{values_at}
-use Rattle.candidates.proofs.Marking.{mark_one, node_starts, node_goes_on, node_overflows}
+use Rattle.candidates.proofs.Marking.{node_starts, node_goes_on, node_overflows}
 use Rattle.candidates.proofs.nodes.node_values.Goals as goal
 
 pub loop-k-init : goal.loop-k-init
@@ -16,16 +15,16 @@ loop-k-init c =
 pub returns-in-Err : goal.returns-in-Err
 returns-in-Err c =
     let i = c.loop-k.invariant.1 c.args.start c.start-history.ensures.values in
-    let m = mark_one c.args.trace.now c.loop-k.k ∙ sym (ap (λ (s : Step). s.mark) c.step.ensures) in
-    node_overflows c.args.start (marks_of c.args.trace.now) c.args.node c.args.point c.loop-k.k c.step.result.mark (held c.loop-k.history) c.loop-k-test.true m i.0 i.1 c.in-Err.ensures.answer
+    let m = sym c.mark.ensures in
+    node_overflows c.args.start (marks_of c.args.trace.now) c.args.node c.args.point c.loop-k.k c.mark.result (held c.loop-k.history) c.loop-k-test.true m i.0 i.1 c.in-Err.ensures.answer
 
 pub loop-k-preserved : goal.loop-k-preserved
 loop-k-preserved c =
-    let m = mark_one c.args.trace.now c.loop-k.k ∙ sym (ap (λ (s : Step). s.mark) c.step.ensures) in (
+    let m = sym c.mark.ensures in (
       c.in-Ok.ensures.cells,
       λ start e.
           let i = c.loop-k.invariant.1 start e in
-          node_goes_on start (marks_of c.args.trace.now) c.args.node c.loop-k.k c.step.result.mark (held c.loop-k.history) (held c.turn_node.new.history) m i.0 i.1 c.in-Ok.ensures.answer (c.in-Ok.ensures.values refl),
+          node_goes_on start (marks_of c.args.trace.now) c.args.node c.loop-k.k c.mark.result (held c.loop-k.history) (held c.turn_node.new.history) m i.0 i.1 c.in-Ok.ensures.answer (c.in-Ok.ensures.values refl),
     )
 
 pub returns : goal.returns
