@@ -1,9 +1,8 @@
 -- One entry at the front of what is left: what is asked of it, in order, and what is read.
-use Rattle.std.proofs.Common.{◌≡◌, ℕ, zero, suc, ◌+◌, ◌-◌, ◌*◌, ◌/◌, ◌<◌, ◌≤◌, Bool, true, false, cond, not, ◌&&◌, eqb, ltb, List, [], length, drop, is_some, Some, None, Ok, Err, Option, Result, unwrap_or, sym, refl, ap, ◌∙◌, inl, inr, arith}
+use Rattle.std.proofs.Common.{◌≡◌, ℕ, zero, suc, ◌+◌, ◌-◌, ◌*◌, ◌<◌, ◌≤◌, Bool, true, false, cond, not, ◌&&◌, eqb, ltb, List, [], length, is_some, Some, None, Ok, Err, Option, Result, unwrap_or, sym, refl, ap, ◌∙◌, inl, inr, arith}
 use Rattle.std.specs.List.{between}
-use Rattle.std.proofs.lemmas.Bool.{cases_Bool, cases_eq, le-ltb, ltb-false, ne_eqb, eq-eqb, eqb-true, and_cases, or_parts}
-use Rattle.std.proofs.lemmas.List.{drop-drop, length-take-le, length-drop}
-use Rattle.image.specs.Layers.{has}
+use Rattle.std.proofs.lemmas.Bool.{cases_Bool, cases_eq, le-ltb, ltb-false, ne_eqb, eq-eqb}
+use Rattle.std.proofs.lemmas.List.{drop-drop}
 use Rattle.mark.specs.declared.mark.Mark.{Mark}
 use Rattle.mark.specs.declared.mark.Mark.TheVariants.{Comment}
 use Rattle.mark.specs.Found.{mark_of}
@@ -13,13 +12,11 @@ use Rattle.recording.specs.declared.entry.Flags.{Flags}
 use Rattle.recording.specs.declared.entry.Header.{Header}
 use Rattle.recording.specs.declared.entry.Reader.{Reader}
 use Rattle.recording.specs.Refusals as RC
-use Rattle.recording.specs.Numbers.{all_zero}
-use Rattle.recording.specs.Items.{Item, write, discard, flush, mark, flags_of, sectors_of, data_of}
-use Rattle.recording.specs.Entries.{sector_in, sectors_in, bits_in, size_in, text_in, fields_flawed, sector_cut, malformed, data_in, data_cut, item_in, rest_of}
+use Rattle.recording.specs.Items.{Item, write, discard, flush, mark, flags_of}
+use Rattle.recording.specs.Entries.{sector_in, sectors_in, bits_in, text_in, sector_cut, malformed, data_in, data_cut, item_in, rest_of}
 use Rattle.recording.specs.Reading.{ahead, next_number, HeaderAt, sector_fault, entry_fault, end_fault, reader_fault, moved, or_else}
 use Rattle.recording.proofs.Made.{whole_sector}
 use Rattle.recording.proofs.Deciding.{well_formed}
-use Rattle.recording.proofs.Flagging.{Kept, fields_kept}
 use Rattle.meaning.specs.Meanings.{mark_in}
 use Rattle.meaning.specs.Loads.{entries_from, onwards, unmarked, outside_in}
 use Rattle.loading.specs.declared.refusal.Refusal.{Refusal}
@@ -240,55 +237,8 @@ mark_read x used count m a =
     ∙ sym (marked_item (flags_of (bits_in x)).mark (eqb (sectors_in x) 0) (flags_of (bits_in x)).discard (sector_in x) (sectors_in x) (flags_of (bits_in x)) (text_in x) (between 512 (512 + 512 * data_in x) x))
 
 -- HOW MUCH DATA the entry has.
-module _ (x : List ℕ) (k : ℕ) (s : sector_fault k x ≡ None) (c : 512 + 512 * data_in x ≤ length x) where
-  abbrev content : List ℕ
-  content = between 512 (512 + 512 * data_in x) x
-
-  content_length : length content ≡ 512 * data_in x
-  content_length = length-take-le (512 + 512 * data_in x - 512) (drop 512 x) (omega (arith, length-drop 512 x)) ∙ omega arith
-
-  kept : Kept (sector_in x) (sectors_in x) (bits_in x) (size_in x)
-  kept = fields_kept (sector_in x) (sectors_in x) (bits_in x) (size_in x) (or_parts (fields_flawed (sector_in x) (sectors_in x) (bits_in x) (size_in x)) (not (all_zero (between (32 + size_in x) 512 x))) (well_formed k x s)).0
-
-  none : (b : Bool) → sectors_in x ≡ 0 → 0 ≡ 512 * cond b 0 (sectors_in x)
-  none true z = refl
-  none false z = let e : 512 * sectors_in x ≡ 0 = omega arith in sym e
-
-  amount : (isMark z d : Bool) → has (bits_in x) 3 ≡ isMark → eqb (sectors_in x) 0 ≡ z → has (bits_in x) 2 ≡ d →
-      length (data_of (cond isMark (mark (text_in x)) (cond z (flush (sector_in x) (has (bits_in x) 1) (has (bits_in x) 2) (has (bits_in x) 4)) (cond d (discard (sector_in x) (sectors_in x) (has (bits_in x) 0) (has (bits_in x) 4)) (write (sector_in x) (has (bits_in x) 0) (has (bits_in x) 1) (has (bits_in x) 4) content))))) ≡ 512 * data_in x
-  amount true z d em ez ed = none (has (bits_in x) 2) (kept.marks em).2
-  amount false true d em ez ed = none (has (bits_in x) 2) (eqb-true (sectors_in x) 0 ez)
-  amount false false true em ez ed = sym (ap (λ b. 512 * cond b 0 (sectors_in x)) ed)
-  amount false false false em ez ed = content_length
-
-  pub data_length : length (data_of (item_in x)) ≡ 512 * data_in x
-  data_length = amount (has (bits_in x) 3) (eqb (sectors_in x) 0) (has (bits_in x) 2) refl refl refl
-
--- how many sectors it touches
-pub sectors_few : (x : List ℕ) (k used count : ℕ) (m : Mark) → sector_fault k x ≡ None → 512 + 512 * data_in x ≤ length x → Accepted x used count m → count ≤ 64 → sectors_of (item_in x) ≤ 64
-sectors_few x k used count m s c a h = go (flags_of (bits_in x)).mark (eqb (sectors_in x) 0) (flags_of (bits_in x)).discard refl
-  where
-    touched : sectors_in x ≤ 64
-    touched = elim (and_cases (ltb 0 (sectors_in x)) (ltb count (sector_in x + sectors_in x)) a.inside) [
-      | inl z ↦ let l = ltb-false 0 (sectors_in x) z in omega arith
-      | inr z ↦ let l = ltb-false count (sector_in x + sectors_in x) z in omega arith
-    ]
-
-    fewer : (b : Bool) → cond b 0 (sectors_in x) ≤ 64
-    fewer true = omega arith
-    fewer false = touched
-
-    content_few : length (between 512 (512 + 512 * data_in x) x) / 512 ≤ 64
-    content_few = let e = content_length x k s c in let f = fewer (flags_of (bits_in x)).discard in omega arith
-
-    go : (isMark z d : Bool) → item_in x ≡ item_in x → sectors_of (cond isMark (mark (text_in x)) (cond z (flush (sector_in x) (flags_of (bits_in x)).fua (flags_of (bits_in x)).discard (flags_of (bits_in x)).metadata) (cond d (discard (sector_in x) (sectors_in x) (flags_of (bits_in x)).flush (flags_of (bits_in x)).metadata) (write (sector_in x) (flags_of (bits_in x)).flush (flags_of (bits_in x)).fua (flags_of (bits_in x)).metadata (between 512 (512 + 512 * data_in x) x))))) ≤ 64
-    go true z d e = omega arith
-    go false true d e = omega arith
-    go false false true e = touched
-    go false false false e = content_few
-
-pub is_complete : (r : Reader) → 0 < r.left → sector_fault (next_number r) (ahead r) ≡ None → reader_fault r ≡ None → 512 + 512 * data_in (ahead r) ≤ length (ahead r)
-is_complete r l s e = ltb-false (length (ahead r)) (512 + 512 * data_in (ahead r)) (complete r l s e)
+pub header_data : (h : Header) (x : List ℕ) → HeaderAt h x → cond h.flags.discard 0 h.sectors ≡ data_in x
+header_data h x a = ap (λ n. cond h.flags.discard 0 n) a.1 ∙ ap (λ (f : Flags). cond f.discard 0 (sectors_in x)) a.2
 
 pub asked_same : (r : Reader) (h : Header) (k used count : ℕ) (m : Mark) → HeaderAt h (ahead r) → k ≡ next_number r → Ok m ≡ answered h k used count → Ok m ≡ asked_of (ahead r) (next_number r) used count
 asked_same r h k used count m a ek e = e ∙ ap (λ j. answered h j used count) ek ∙ header_asked h (ahead r) (next_number r) used count a

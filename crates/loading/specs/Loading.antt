@@ -1,18 +1,14 @@
 -- What the reading of a recording into memory answers.
-use Rattle.std.specs.Prelude.{◌≡◌, ℕ, ◌+◌, ◌/◌, ◌≤◌, Bool, true, false, ◌⊎◌, List, [], ◌∷◌, ◌++◌, map, length, drop, Some, None, Ok, Err, vec_items, Option, Result}
-use Rattle.std.specs.List.{range_with_len, AllByRecursion}
+use Rattle.std.specs.Prelude.{◌≡◌, ℕ, ◌+◌, ◌/◌, ◌≤◌, Bool, true, false, ◌⊎◌, List, [], ◌∷◌, ◌++◌, map, length, drop, Some, None, Ok, Err, Option, Result}
+use Rattle.std.specs.List.{range_with_len}
 use Rattle.image.specs.Sectors.{Sector, sector_at}
-use Rattle.mark.specs.declared.mark.Mark.{Mark}
 use Rattle.recording.specs.declared.refusal.Refusal as R
 use Rattle.recording.specs.Refusals as RC
 use Rattle.recording.specs.declared.entry.Reader.{Reader}
-use Rattle.recording.specs.Items.{Item, write, discard, flush, mark, data_of}
+use Rattle.recording.specs.Items.{Item}
 use Rattle.recording.specs.Heads.{count_in}
 use Rattle.recording.specs.Reading.{open_fault, ahead, next_number}
 use Rattle.crash.specs.Effects.{effect_of}
-use Rattle.trace.specs.declared.steps.Source.{Source}
-use Rattle.trace.specs.declared.steps.Source.TheVariants.{Zeros, Data}
-use Rattle.trace.specs.declared.steps.Step.{Step}
 use Rattle.trace.specs.declared.steps.Trace.{Trace}
 use Rattle.trace.specs.Meaning.{effects_of, marks_of}
 use Rattle.meaning.specs.Meanings.{mark_in}
@@ -32,27 +28,10 @@ code_of Memory = None
 abbrev pub whole_sectors : List ℕ → List Sector
 whole_sectors row = map (sector_at row) (range_with_len 0 (length row / 512))
 
--- the step of an entry, with its mark, if its data lie from data sector `from` on
-abbrev pub step_of : Item → Mark → (from : ℕ) → Step
-step_of (write sector fl force meta content) m from = record { flush = fl; fua = force; first = sector; sectors = length content / 512; source = Data from; mark = m }
-step_of (discard sector sectors fl meta) m from = record { flush = fl; fua = false; first = sector; sectors = sectors; source = Zeros; mark = m }
-step_of (flush sector force dis meta) m from = record { flush = true; fua = force; first = sector; sectors = 0; source = Zeros; mark = m }
-step_of (mark text) m from = record { flush = false; fua = false; first = 0; sectors = 0; source = Zeros; mark = m }
-
--- so many sectors from a source lie within n data sectors
-abbrev pub InSource : Source → (sectors n : ℕ) → Type 0
-InSource Zeros sectors n = Unit {0}
-InSource (Data from) sectors n = from + sectors ≤ n
-
--- a step's data lie within so many data sectors
-abbrev pub LiesIn : (n : ℕ) → Step → Type 0
-LiesIn n step = InSource step.source step.sectors n
-
--- a trace means the entries: their effects and their marks, with every step's data among the data sectors
+-- a trace means the entries: their effects and their marks
 pub record Means (t : Trace) (items : List Item) : Type 0 where
   pub effects : effects_of t ≡ map effect_of items
   pub marks : marks_of t ≡ map mark_in items
-  pub bounded : AllByRecursion (LiesIn (length (vec_items t.sectors))) (vec_items t.steps)
 
 -- why the bytes are declined: for the head, else for an entry or the end
 abbrev pub of_entries : Result (List Item) (ℕ × ℕ) → Option (ℕ × ℕ)
@@ -91,18 +70,15 @@ IsOfMemory Memory = Unit {0}
 abbrev pub remaining : Reader → (used count : ℕ) → Result (List Item) (ℕ × ℕ)
 remaining r used count = entries_from r.left (next_number r) used count (ahead r)
 
--- how many data sectors a trace has
-abbrev pub used_by : Trace → ℕ
-used_by t = length (vec_items t.sectors)
-
 -- a trace u is the trace t with one entry more
 pub record Extends (t u : Trace) (e : Item) : Type 0 where
-  pub steps : vec_items u.steps ≡ vec_items t.steps ++ step_of e (mark_in e) (used_by t) ∷ []
-  pub sectors : vec_items u.sectors ≡ vec_items t.sectors ++ whole_sectors (data_of e)
+  pub effects : effects_of u ≡ effects_of t ++ effect_of e ∷ []
+  pub marks : marks_of u ≡ marks_of t ++ mark_in e ∷ []
 
--- one entry read from the reader r into the trace t, which are then s and u: an entry, or the end, or why not
-abbrev pub OneRead : (count : ℕ) → (r s : Reader) → (t u : Trace) → Result Bool Refusal → Type 0
-OneRead count r s t u (Ok true) =
-    (e : Item) × (remaining r (used_by t) count ≡ onwards e (remaining s (used_by u) count)) × Extends t u e × (s.left + 1 ≡ r.left) × (s.left ≤ s.total) × (used_by u ≤ 96)
-OneRead count r s t u (Ok false) = (remaining r (used_by t) count ≡ Ok []) × (u ≡ t)
-OneRead count r s t u (Err f) = IsOfMemory f ⊎ (of_entries (remaining r (used_by t) count) ≡ code_of f)
+-- One entry read from the reader r into the trace t, when n data sectors are used; then they are s, u and m: an entry,
+-- or the end, or why not.
+abbrev pub OneRead : (count : ℕ) → (r s : Reader) → (n m : ℕ) → (t u : Trace) → Result Bool Refusal → Type 0
+OneRead count r s n m t u (Ok true) =
+    (e : Item) × (remaining r n count ≡ onwards e (remaining s m count)) × Extends t u e × (s.left + 1 ≡ r.left) × (s.left ≤ s.total) × (m ≤ 96)
+OneRead count r s n m t u (Ok false) = (remaining r n count ≡ Ok []) × (u ≡ t)
+OneRead count r s n m t u (Err f) = IsOfMemory f ⊎ (of_entries (remaining r n count) ≡ code_of f)

@@ -1,6 +1,6 @@
 //! The recording, entry by entry.
 ghost use Rattle.std.specs.Prelude.{◌≡◌, ℕ, ◌≤◌, length};
-ghost use Rattle.loading.specs.Loading.{OneRead, Loaded, used_by};
+ghost use Rattle.loading.specs.Loading.{OneRead, Loaded};
 
 use crate::asking::ask;
 use crate::push::push_entry;
@@ -10,12 +10,18 @@ use recording::Reader;
 use std::alloc::Global;
 use trace::Trace;
 
-/// Reads one entry into a trace, or answers false at the end.
-fn read_entry(reader: &mut Reader, trace: &mut Trace, count: usize) -> Result<bool, Refusal>
+/// Reads one entry into a trace, or answers false at the end; `used` counts the data sectors read.
+fn read_entry(
+    heap: Global,
+    reader: &mut Reader,
+    trace: &mut Trace,
+    used: &mut usize,
+    count: usize,
+) -> Result<bool, Refusal>
     requires ordered { reader.old.left ≤ reader.old.total }
-    requires few { used_by trace.old ≤ 96 }
+    requires few { used.old ≤ 96 }
     requires small { count ≤ 64 }
-    ensures { OneRead count reader.old reader.new trace.old trace.new result }
+    ensures { OneRead count reader.old reader.new used.old used.new trace.old trace.new result }
 {
     let found = match reader.header() {
         Ok(found) => found,
@@ -25,7 +31,7 @@ fn read_entry(reader: &mut Reader, trace: &mut Trace, count: usize) -> Result<bo
         return Ok(false);
     };
     let number = reader.total() - reader.left() + 1;
-    let mark = match ask(&header, number, trace.sectors.len(), count) {
+    let mark = match ask(&header, number, *used, count) {
         Ok(mark) => mark,
         Err(refusal) => return Err(refusal),
     };
@@ -36,8 +42,11 @@ fn read_entry(reader: &mut Reader, trace: &mut Trace, count: usize) -> Result<bo
     let Some(entry) = taken else {
         return Ok(false);
     };
-    match push_entry(trace, &entry, mark) {
-        Ok(()) => Ok(true),
+    match push_entry(heap, trace, &entry, mark) {
+        Ok(()) => {
+            *used += header.data_sectors() as usize;
+            Ok(true)
+        }
         Err(_) => Err(Refusal::Memory),
     }
 }
@@ -52,9 +61,10 @@ pub fn read_trace<S: ImageStore>(heap: Global, bytes: &[u8], base: &S) -> Result
         Err(refusal) => return Err(Refusal::Recording(refusal)),
     };
     let mut trace = Trace::new(heap);
+    let mut used = 0;
     let count = base.count();
     loop {
-        let more = match read_entry(&mut reader, &mut trace, count) {
+        let more = match read_entry(heap, &mut reader, &mut trace, &mut used, count) {
             Ok(more) => more,
             Err(refusal) => return Err(refusal),
         };
