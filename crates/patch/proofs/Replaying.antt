@@ -6,7 +6,7 @@ use Rattle.recording.specs.declared.entry.Entry.{Entry}
 use Rattle.recording.specs.declared.entry.Reader.{Reader}
 use Rattle.recording.specs.Items.{Item}
 use Rattle.recording.specs.Writes.{outside}
-use Rattle.recording.specs.Reading.{ahead, item_seen, next_number, moved, Opening, Stepping}
+use Rattle.recording.specs.Reading.{ahead, item_seen, next_number, Opening, Stepping}
 use Rattle.recording.specs.Entries.{item_in}
 use Rattle.recording.specs.Recorded.{recorded, remaining, items_of}
 use Rattle.recording.proofs.Remaining.{remaining_whole, remaining_step, remaining_declined, remaining_none, prepended_ok, prepended_items, unopened}
@@ -15,17 +15,16 @@ use Rattle.patch.specs.Replayed.{Sound, Taken, first_outside}
 pub taken : (r t : Reader) (o : Option Entry) → Sound r → Stepping r t (Ok o) → Taken r t o
 taken r t None s p = ap items_of (remaining_none r p.0 p.1)
 taken r t (Some e) s p =
-    let step = remaining_step r s.1 p.0 p.1 in
-    let ok : is_ok (remaining (moved r)) ≡ true = sym (prepended_ok (item_in (ahead r)) (remaining (moved r))) ∙ ap is_ok (sym step) ∙ s.0 in
+    let step = remaining_step r t p.0 p.1 p.4 in
+    let ok : is_ok (remaining t) ≡ true = sym (prepended_ok (item_in (ahead r)) (remaining t)) ∙ ap is_ok (sym step) ∙ s.0 in
     let h = p.0 in
-    let l = s.1 in
-    let P : Reader → Type 0 = λ q. (items_of (remaining r) ≡ item_seen e ∷ items_of (remaining q)) × Sound q × (next_number q ≡ next_number r + 1) × (q.left + 1 ≡ r.left) × (q.total ≡ r.total) in
-    subst P (sym p.4) (
-      ap items_of step ∙ prepended_items (item_in (ahead r)) (remaining (moved r)) ok ∙ ap (λ i. i ∷ items_of (remaining (moved r))) (sym p.2),
-      (ok, omega arith),
-      omega arith,
-      omega arith,
-      refl,
+    let o = r.ordered in
+    let m = p.4 in (
+      ap items_of step ∙ prepended_items (item_in (ahead r)) (remaining t) ok ∙ ap (λ i. i ∷ items_of (remaining t)) (sym p.2),
+      (ok, t.ordered),
+      omega (arith, m.left, m.total),
+      omega (arith, m.left),
+      m.total,
     )
 
 -- such a reader does not decline
@@ -43,7 +42,7 @@ opens s f ok o =
     let n : ◌≡◌ {A = ℕ} 0 1 = cc in omega arith
 
 pub begun : (s : List ℕ) (r : Reader) → is_ok (recorded s) ≡ true → Opening s (Ok r) → Sound r × (items_of (remaining r) ≡ items_of (recorded s)) × (next_number r ≡ 1)
-begun s r ok o = let w = remaining_whole s r o in ((ap is_ok w.0 ∙ ok, w.1), ap items_of w.0, w.2)
+begun s r ok o = let w = remaining_whole s r o in ((ap is_ok w.0 ∙ ok, r.ordered), ap items_of w.0, w.1)
 
 -- the first entry that lies outside: this one, or one behind it
 pub outside_here : (k count : ℕ) (e : Item) (es : List Item) → outside e count ≡ true → first_outside k count (e ∷ es) ≡ Some k

@@ -1,12 +1,12 @@
 -- A reader on its way through a whole recording.
-use Rattle.std.proofs.Common.{◌≡◌, ℕ, ◌<◌, ◌≤◌, List, [], Some, None, Ok, Err, Option, Result, sym, refl, ap, ◌∙◌, subst, arith}
+use Rattle.std.proofs.Common.{◌≡◌, ℕ, ◌<◌, List, [], Some, None, Ok, Err, Option, Result, sym, refl, ap, ◌∙◌, subst, arith}
 use Rattle.image.specs.Sectors.{Bytes}
 use Rattle.recording.specs.declared.refusal.Refusal.{Refusal}
 use Rattle.recording.specs.declared.entry.Reader.{Reader}
 use Rattle.recording.specs.Items.{Item}
 use Rattle.recording.specs.Heads.{count_in}
 use Rattle.recording.specs.Entries.{item_in}
-use Rattle.recording.specs.Reading.{ahead, reader_fault, moved, Opening}
+use Rattle.recording.specs.Reading.{ahead, reader_fault, Moved, Opening}
 use Rattle.recording.specs.Recorded.{prepend, recorded, remaining, counted, Validated}
 use Rattle.recording.proofs.Wholly.{whole_taken, validated}
 use Rattle.recording.proofs.Remaining.{remaining_whole, remaining_step, remaining_declined, remaining_none}
@@ -19,7 +19,6 @@ fault_of (Err f) = Some f
 -- what is left decides as the whole does
 pub record Midway (s : List ℕ) (r : Reader) : Type 0 where
   pub total : r.total ≡ count_in s
-  pub left : r.left ≤ r.total
   pub same : fault_of (remaining r) ≡ fault_of (recorded s)
 
 fault_prepend : (e : Item) (r : Result (List Item) Refusal) → fault_of (prepend e r) ≡ fault_of r
@@ -27,16 +26,14 @@ fault_prepend e (Ok es) = refl
 fault_prepend e (Err f) = refl
 
 pub started : (s : List ℕ) (r : Reader) → Opening s (Ok r) → Midway s r
-started s r o = let w = remaining_whole s r o in record { total = o.3; left = w.1; same = ap fault_of w.0 }
+started s r o = let w = remaining_whole s r o in record { total = o.3; same = ap fault_of w.0 }
 
-pub stepped : (s : List ℕ) (r t : Reader) → Midway s r → 0 < r.left → reader_fault r ≡ None → t ≡ moved r → Midway s t
-stepped s r t m h f e =
-    let P : Reader → Type 0 = λ q. Midway s q in
-    subst P (sym e) (record {
-      total = m.total;
-      left = let l = m.left in omega arith;
-      same = sym (fault_prepend (item_in (ahead r)) (remaining (moved r))) ∙ ap fault_of (sym (remaining_step r m.left h f)) ∙ m.same;
-    })
+pub stepped : (s : List ℕ) (r t : Reader) → Midway s r → 0 < r.left → reader_fault r ≡ None → Moved r t → Midway s t
+stepped s r t m h f v =
+    record {
+      total = v.total ∙ m.total;
+      same = sym (fault_prepend (item_in (ahead r)) (remaining t)) ∙ ap fault_of (sym (remaining_step r t h f v)) ∙ m.same;
+    }
 
 is_err : (o : Result (List Item) Refusal) (f : Refusal) → fault_of o ≡ Some f → o ≡ Err f
 is_err (Ok es) f e = absurd (let z : ◌≡◌ {A = ℕ} 0 1 = cc in omega arith)

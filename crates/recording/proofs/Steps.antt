@@ -1,5 +1,5 @@
 -- A reader's next entry.
-use Rattle.std.proofs.Common.{◌≡◌, ℕ, ◌+◌, ◌-◌, ◌^◌, ◌<◌, cond, List, Option, sym, ap, ◌∙◌, arith}
+use Rattle.std.proofs.Common.{◌≡◌, ℕ, cond, List, Option, sym, ap, ◌∙◌}
 use Rattle.std.proofs.lemmas.Bool.{ne_eqb}
 use Rattle.recording.specs.declared.refusal.Refusal.{Refusal}
 use Rattle.recording.specs.declared.entry.Reader.{Reader}
@@ -9,6 +9,3 @@ pub reader_fault_lem : (r : Reader) (k : ℕ) (x : List ℕ) (o : Option Refusal
 reader_fault_lem r k x o ne ek ex e =
     ap (λ b. cond b (end_fault (ahead r)) (entry_fault (next_number r) (ahead r))) (ne_eqb r.left 0 ne)
     ∙ ap (λ j. entry_fault j (ahead r)) (sym ek) ∙ ap (entry_fault k) (sym ex) ∙ e
-
-pub rest_fits : (p n m : ℕ) → p < 2 ^ 64 → n < 2 ^ 64 → m ≡ n - p → p + m < 2 ^ 64
-rest_fits p n m h k e = omega arith

@@ -1,5 +1,6 @@
 -- Numbers as bytes, the least first; rows of zeros.
-use Rattle.std.specs.Prelude.{ℕ, zero, suc, ◌+◌, ◌*◌, ◌/◌, ◌%◌, Bool, true, ◌&&◌, List, [], ◌∷◌, take, drop, ◌==◌}
+use Rattle.std.specs.Prelude.{ℕ, zero, suc, ◌+◌, ◌*◌, ◌/◌, ◌%◌, Bool, List, [], ◌∷◌, take, drop, ◌==◌}
+use Rattle.std.specs.List.{list_all}
 
 -- the number that bytes write
 abbrev pub number : List ℕ → ℕ
@@ -17,5 +18,4 @@ part s at n = take n (drop at s)
 
 -- each byte is 0
 abbrev pub all_zero : List ℕ → Bool
-all_zero [] = true
-all_zero (b ∷ bs) = b == 0 && all_zero bs
+all_zero xs = list_all (λ b. b == 0) xs

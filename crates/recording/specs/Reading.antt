@@ -1,7 +1,8 @@
 -- Reading a recording, entry by entry.
-use Rattle.std.specs.Prelude.{◌≡◌, ℕ, ◌+◌, ◌-◌, ◌*◌, ◌<◌, ◌≤◌, cond, List, [], ◌++◌, length, take, drop, Some, None, Ok, Err, Option, Result, ◌==◌, ◌≢◌, nat_lt}
+use Rattle.std.specs.Prelude.{◌≡◌, ℕ, ◌+◌, ◌-◌, ◌*◌, ◌<◌, ◌≤◌, Bool, true, false, cond, List, [], ◌++◌, length, take, drop, Some, None, Ok, Err, Option, Result, ◌==◌, ◌≢◌, nat_lt}
 use Rattle.recording.specs.declared.refusal.Refusal.{Refusal}
 use Rattle.recording.specs.declared.refusal.Refusal.TheVariants.{Head, TooMany, Incomplete, Form, Trailing}
+use Rattle.recording.specs.declared.form.Fields.{Fields}
 use Rattle.recording.specs.declared.entry.Header.{Header}
 use Rattle.recording.specs.declared.entry.Entry.{Entry}
 use Rattle.recording.specs.declared.entry.Entry.TheVariants.{Write, Discard, Flush, Mark}
@@ -10,7 +11,7 @@ use Rattle.recording.specs.declared.entry.Found.{Found}
 use Rattle.recording.specs.Items.{Item, write, discard, flush, mark, flags_of, Formed}
 use Rattle.recording.specs.Layout.{entry_layout}
 use Rattle.recording.specs.Heads.{head_faulty, count_in}
-use Rattle.recording.specs.Entries.{sector_in, sectors_in, bits_in, text_in, malformed, sector_cut, data_cut, data_in, item_of, item_in}
+use Rattle.recording.specs.Entries.{sector_in, sectors_in, bits_in, size_in, text_in, malformed, sector_cut, data_cut, data_in, item_of, item_in}
 
 -- what an entry in memory says
 abbrev pub item_seen : Entry → Item
@@ -32,6 +33,13 @@ ahead r = drop r.place r.bytes.now
 
 abbrev pub next_number : Reader → ℕ
 next_number r = r.total - r.left + 1
+
+-- the numbers of the sector at the front of x
+pub record FieldsIn (f : Fields) (x : List ℕ) : Type 0 where
+  pub sector : f.sector ≡ sector_in x
+  pub sectors : f.sectors ≡ sectors_in x
+  pub bits : f.bits ≡ bits_in x
+  pub size : f.size ≡ size_in x
 
 -- the header of the entry at the front of x
 abbrev pub HeaderAt : Header → List ℕ → Type 0
@@ -58,9 +66,12 @@ end_fault x = cond (nat_lt 0 (length x)) (Some Trailing) None
 abbrev pub reader_fault : Reader → Option Refusal
 reader_fault r = cond (r.left == 0) (end_fault (ahead r)) (entry_fault (next_number r) (ahead r))
 
--- the reader behind the next entry
-abbrev pub moved : Reader → Reader
-moved r = record { bytes = r.bytes; place = r.place + (512 + 512 * data_in (ahead r)); total = r.total; left = r.left - 1 }
+-- the reader t is the reader r behind its next entry
+pub record Moved (r t : Reader) : Type 0 where
+  pub bytes : t.bytes ≡ r.bytes
+  pub place : t.place ≡ r.place + (512 + 512 * data_in (ahead r))
+  pub total : t.total ≡ r.total
+  pub left : t.left ≡ r.left - 1
 
 -- where an entry's content or text lies, if its sector lies at `start`
 abbrev pub LiesFrom : ℕ → Entry → Type 0
@@ -88,6 +99,12 @@ abbrev pub HeaderFinding : ℕ → List ℕ → Result Header Refusal → Type 0
 HeaderFinding k x (Ok h) = (sector_fault k x ≡ None) × HeaderAt h x
 HeaderFinding k x (Err f) = sector_fault k x ≡ Some f
 
+-- what is answered to whether a reader is at the end
+abbrev pub Ending : Reader → Result Bool Refusal → Type 0
+Ending r (Ok true) = (r.left ≡ 0) × (ahead r ≡ [])
+Ending r (Ok false) = 0 < r.left
+Ending r (Err f) = (r.left ≡ 0) × (end_fault (ahead r) ≡ Some f)
+
 -- what a header's answer says
 abbrev pub Heading : Reader → Result (Option Header) Refusal → Type 0
 Heading r (Ok None) = (r.left ≡ 0) × (ahead r ≡ [])
@@ -97,7 +114,7 @@ Heading r (Err f) = cond (r.left == 0) (end_fault (ahead r)) (sector_fault (next
 -- what a step from the reader r to the reader t answers
 abbrev pub Stepping : Reader → Reader → Result (Option Entry) Refusal → Type 0
 Stepping r t (Ok None) = (r.left ≡ 0) × (ahead r ≡ []) × (t ≡ r)
-Stepping r t (Ok (Some e)) = (0 < r.left) × (reader_fault r ≡ None) × (item_seen e ≡ item_in (ahead r)) × Placed r.bytes.now e × (t ≡ moved r)
+Stepping r t (Ok (Some e)) = (0 < r.left) × (reader_fault r ≡ None) × (item_seen e ≡ item_in (ahead r)) × Placed r.bytes.now e × Moved r t
 Stepping r t (Err f) = (reader_fault r ≡ Some f) × (t ≡ r)
 
 -- The same against the layout: an entry is given exactly where one within the rules is laid out.

@@ -1,4 +1,5 @@
 //! Entries of a recording, as parts of its bytes.
+ghost use Rattle.std.specs.Prelude.{◌≡◌, ◌≤◌, length};
 
 /// The flags of an entry.
 #[derive(Clone, Copy, PartialEq, Eq, Debug)]
@@ -60,6 +61,31 @@ pub struct Reader<'a> {
     pub(crate) place: usize,
     pub(crate) total: u64,
     pub(crate) left: u64,
+    pub ghost within: { place ≤ length bytes.now },
+    pub ghost ordered: { left ≤ total },
+}
+
+impl<'a> Reader<'a> {
+    /// Where the next entry begins.
+    pub fn place(&self) -> usize
+        ensures { result ≡ self.now.place }
+    {
+        self.place
+    }
+
+    /// How many entries the head tells.
+    pub fn total(&self) -> u64
+        ensures { result ≡ self.now.total }
+    {
+        self.total
+    }
+
+    /// How many entries are left.
+    pub fn left(&self) -> u64
+        ensures { result ≡ self.now.left }
+    {
+        self.left
+    }
 }
 
 /// An entry, and how many bytes its sector and data have.

@@ -1,55 +1,72 @@
 //! The form of an entry's sector.
-ghost use Rattle.std.specs.Prelude.{◌≡◌, ℕ, ◌+◌, ◌≤◌, length};
+ghost use Rattle.std.specs.Prelude.{◌≡◌, ℕ, ◌≤◌, length, true, false, MatchOption};
+ghost use Rattle.recording.specs.Items.{flags_of};
 ghost use Rattle.recording.specs.Entries.{mark_flawed, text_flawed, flags_flawed, fields_flawed, malformed};
+ghost use Rattle.recording.specs.Reading.{FieldsIn};
 
 use crate::entry::Flags;
-use crate::fields::{flags_of, number64, zeros};
+use crate::fields::{number64, zeros};
 
-/// Whether a mark has another flag, or names sectors.
-fn mark_flawed(sector: u64, sectors: u64, bits: u64, flags: Flags) -> bool
-    ensures { result ≡ mark_flawed sector sectors bits flags }
-{
-    flags.mark && (bits != 8 || sector != 0 || sectors != 0)
+/// The numbers of an entry's sector.
+#[derive(Clone, Copy)]
+pub struct Fields {
+    pub sector: u64,
+    pub sectors: u64,
+    pub bits: u64,
+    pub size: u64,
 }
 
-/// Whether a text is too long, or stands without a mark.
-fn text_flawed(size: u64, flags: Flags) -> bool
-    ensures { result ≡ text_flawed size flags }
-{
-    size > 480 || (size != 0 && !flags.mark)
-}
-
-/// Whether flags exclude one another, or there is nothing to do.
-fn flags_flawed(sectors: u64, flags: Flags) -> bool
-    ensures { result ≡ flags_flawed sectors flags }
-{
-    (flags.discard && flags.fua) || (sectors == 0 && !flags.mark && !flags.flush)
-}
-
-/// Whether the fields break a rule; 32 and more has a flag above 16.
-fn fields_flawed(sector: u64, sectors: u64, bits: u64, size: u64) -> bool
-    ensures { result ≡ fields_flawed sector sectors bits size }
-{
-    let flags = flags_of(bits);
-    bits >= 32
-        || mark_flawed(sector, sectors, bits, flags)
-        || text_flawed(size, flags)
-        || flags_flawed(sectors, flags)
-}
-
-/// Whether the entry's sector at the front of `rest` breaks a rule.
-pub fn is_malformed(rest: &[u8]) -> bool
-    requires { 512 ≤ length rest.now }
-    ensures { result ≡ malformed rest.now }
-{
-    let size = number64(rest, 24);
-    if fields_flawed(
-        number64(rest, 0),
-        number64(rest, 8),
-        number64(rest, 16),
-        size,
-    ) {
-        return true;
+impl Fields {
+    /// The numbers at the front of `rest`; none where the sector there breaks a rule.
+    pub fn read(rest: &[u8]) -> Option<Fields>
+        requires { 512 ≤ length rest.now }
+        ensures { MatchOption result (malformed rest.now ≡ true) (λ f. (malformed rest.now ≡ false) × FieldsIn f rest.now) }
+    {
+        let fields = Fields {
+            sector: number64(rest, 0),
+            sectors: number64(rest, 8),
+            bits: number64(rest, 16),
+            size: number64(rest, 24),
+        };
+        if fields.are_flawed() || !zeros(&rest[32 + fields.size as usize..512]) {
+            return None;
+        }
+        Some(fields)
     }
-    !zeros(&rest[32 + size as usize..512])
+
+    /// The flags.
+    pub fn flags(&self) -> Flags
+        ensures { result ≡ flags_of self.now.bits }
+    {
+        Flags::from_bits(self.bits)
+    }
+
+    /// Whether a mark has another flag, or names sectors.
+    fn is_mark_flawed(&self) -> bool
+        ensures { result ≡ mark_flawed self.now.sector self.now.sectors self.now.bits (flags_of self.now.bits) }
+    {
+        self.flags().mark && (self.bits != 8 || self.sector != 0 || self.sectors != 0)
+    }
+
+    /// Whether the text is too long, or stands without a mark.
+    fn is_text_flawed(&self) -> bool
+        ensures { result ≡ text_flawed self.now.size (flags_of self.now.bits) }
+    {
+        self.size > 480 || (self.size != 0 && !self.flags().mark)
+    }
+
+    /// Whether flags exclude one another, or there is nothing to do.
+    fn are_flags_flawed(&self) -> bool
+        ensures { result ≡ flags_flawed self.now.sectors (flags_of self.now.bits) }
+    {
+        let flags = self.flags();
+        (flags.discard && flags.fua) || (self.sectors == 0 && !flags.mark && !flags.flush)
+    }
+
+    /// Whether the numbers break a rule; 32 and more has a flag above 16.
+    fn are_flawed(&self) -> bool
+        ensures { result ≡ fields_flawed self.now.sector self.now.sectors self.now.bits self.now.size }
+    {
+        self.bits >= 32 || self.is_mark_flawed() || self.is_text_flawed() || self.are_flags_flawed()
+    }
 }

@@ -1,11 +1,11 @@
 //! The reader: it opens a recording and goes through it entry by entry.
 ghost use Rattle.std.specs.Prelude.{◌≡◌, ℕ, ◌+◌, ◌^◌, ◌<◌, ◌≤◌, length};
 ghost use Rattle.recording.specs.Heads.{head_faulty};
-ghost use Rattle.recording.specs.Reading.{ahead, next_number, Opening, HeaderFinding, Finding, FindingLaid, Heading, Stepping, Laid, item_seen, item_made, LiesFrom};
+ghost use Rattle.recording.specs.Reading.{ahead, next_number, Opening, HeaderFinding, Finding, FindingLaid, Heading, Stepping, Laid, Ending, item_seen, item_made, LiesFrom};
 
 use crate::entry::{Entry, Found, Header, Reader};
-use crate::fields::{flags_of, number32, number64, zeros};
-use crate::form::is_malformed;
+use crate::fields::{field, number64, zeros};
+use crate::form::Fields;
 use crate::refusal::Refusal;
 
 /// Whether the recording is shorter than a sector, or its head is wrong.
@@ -15,7 +15,7 @@ fn is_head_faulty(bytes: &[u8]) -> bool
     bytes.len() < 512
         || &bytes[0..8] != b"rhswfsj\0".as_slice()
         || number64(bytes, 8) != 1
-        || number32(bytes, 24) != 512
+        || u32::from_le_bytes(field(bytes, 24)) != 512
         || !zeros(&bytes[28..512])
 }
 
@@ -26,15 +26,12 @@ fn header_at<'a>(rest: &'a [u8], number: u64) -> Result<Header<'a>, Refusal>
     if rest.len() < 512 {
         return Err(Refusal::Incomplete { entry: number });
     }
-    if is_malformed(rest) {
-        return Err(Refusal::Form { entry: number });
-    }
-    let size = number64(rest, 24) as usize;
+    let fields = Fields::read(rest).ok_or(Refusal::Form { entry: number })?;
     Ok(Header {
-        sector: number64(rest, 0),
-        sectors: number64(rest, 8),
-        flags: flags_of(number64(rest, 16)),
-        text: &rest[32..32 + size],
+        sector: fields.sector,
+        sectors: fields.sectors,
+        flags: fields.flags(),
+        text: &rest[32..32 + fields.size as usize],
     })
 }
 
@@ -113,61 +110,42 @@ impl<'a> Reader<'a> {
         })
     }
 
-    /// Where the next entry begins.
-    pub fn place(&self) -> usize
-        ensures { result ≡ self.now.place }
-    {
-        let Reader { place, .. } = self;
-        *place
-    }
-
-    /// How many entries the head tells.
-    pub fn total(&self) -> u64
-        ensures { result ≡ self.now.total }
-    {
-        let Reader { total, .. } = self;
-        *total
-    }
-
-    /// How many entries are left.
-    pub fn left(&self) -> u64
-        ensures { result ≡ self.now.left }
-    {
-        let Reader { left, .. } = self;
-        *left
-    }
-
     /// The number of the next entry.
     fn next_number(&self) -> u64
         requires { 0 < self.now.left }
         ensures { result ≡ next_number self.now }
     {
-        self.total.saturating_sub(self.left) + 1
+        self.total - self.left + 1
     }
 
     /// What is left of the recording.
     fn rest(&self) -> &'a [u8]
         ensures { result.now ≡ ahead self.now }
     {
-        if self.place <= self.bytes.len() {
-            &self.bytes[self.place..]
-        } else {
-            &[]
+        &self.bytes[self.place..]
+    }
+
+    /// Whether no entry is left; bytes that follow the last one are declined.
+    fn is_at_end(&self) -> Result<bool, Refusal>
+        ensures { Ending self.now result }
+    {
+        if self.left > 0 {
+            return Ok(false);
         }
+        if !self.rest().is_empty() {
+            return Err(Refusal::Trailing);
+        }
+        Ok(true)
     }
 
     /// What the next entry's sector says; its data are not looked at, and the place stays.
     pub fn header(&self) -> Result<Option<Header<'a>>, Refusal>
         ensures { Heading self.now result }
     {
-        let rest = self.rest();
-        if self.left == 0 {
-            if rest.len() > 0 {
-                return Err(Refusal::Trailing);
-            }
+        if self.is_at_end()? {
             return Ok(None);
         }
-        let header = header_at(rest, self.next_number())?;
+        let header = header_at(self.rest(), self.next_number())?;
         Ok(Some(header))
     }
 
@@ -176,13 +154,10 @@ impl<'a> Reader<'a> {
         ensures step { Stepping self.old self.new result }
         ensures laid { Laid self.old self.new result }
     {
-        let ahead = self.rest();
-        if self.left == 0 {
-            if ahead.len() > 0 {
-                return Err(Refusal::Trailing);
-            }
+        if self.is_at_end()? {
             return Ok(None);
         }
+        let ahead = self.rest();
         let found = entry_at(ahead, self.place, self.next_number())?;
         self.place += found.size;
         self.left -= 1;

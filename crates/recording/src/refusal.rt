@@ -24,11 +24,11 @@ impl Refusal {
     pub fn code(&self) -> (u64, u64)
         ensures { result ≡ code_of self.now }
     {
-        match self {
+        match *self {
             Refusal::Head => (5, 0),
             Refusal::TooMany => (6, 0),
-            Refusal::Incomplete { entry } => (7, *entry),
-            Refusal::Form { entry } => (8, *entry),
+            Refusal::Incomplete { entry } => (7, entry),
+            Refusal::Form { entry } => (8, entry),
             Refusal::Trailing => (12, 0),
         }
     }

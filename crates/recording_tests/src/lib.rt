@@ -5,6 +5,7 @@
 mod tables {
     use recording::{Entry, Reader, Refusal, validate};
     use std::alloc::{AllocError, Global};
+    use std::iter::repeat_n;
     use std::test::Fail;
 
     // What an entry's sector says.
@@ -16,52 +17,49 @@ mod tables {
         size: u64,
     }
 
-    const PLAIN: Fields = Fields {
-        sector: 3,
-        sectors: 1,
+    const BARE: Fields = Fields {
+        sector: 0,
+        sectors: 0,
         flags: 0,
         size: 0,
     };
 
-    const MARK: Fields = Fields {
-        sector: 0,
-        sectors: 0,
-        flags: 8,
-        size: 5,
+    const PLAIN: Fields = Fields {
+        sector: 3,
+        sectors: 1,
+        ..BARE
     };
 
-    // Appends a number of `width` bytes, the least first.
-    fn push_number(row: &mut Vec<u8>, number: u64, width: usize) -> Result<(), AllocError> {
-        let bytes = number.to_le_bytes();
-        row.extend_from_slice(&bytes[0..width.min(8)])
-    }
-
-    fn push_many(row: &mut Vec<u8>, byte: u8, n: usize) -> Result<(), AllocError> {
-        for _ in 0..n {
-            row.push(byte)?;
-        }
-        Ok(())
-    }
+    const MARK: Fields = Fields {
+        flags: 8,
+        size: 5,
+        ..BARE
+    };
 
     // A recording's head.
     fn head(heap: Global, entries: u64) -> Result<Vec<u8>, AllocError> {
         let mut row = Vec::new(heap);
         row.extend_from_slice(b"rhswfsj\0")?;
-        push_number(&mut row, 1, 8)?;
-        push_number(&mut row, entries, 8)?;
-        push_number(&mut row, 512, 4)?;
-        push_many(&mut row, 0, 484)?;
+        row.extend_from_slice(&1u64.to_le_bytes())?;
+        row.extend_from_slice(&entries.to_le_bytes())?;
+        row.extend_from_slice(&512u32.to_le_bytes())?;
+        row.extend(repeat_n(0, 484))?;
         Ok(row)
     }
 
     // An entry's sector, with `text` bytes of text in it.
     fn push_sector(row: &mut Vec<u8>, fields: Fields, text: usize) -> Result<(), AllocError> {
-        push_number(row, fields.sector, 8)?;
-        push_number(row, fields.sectors, 8)?;
-        push_number(row, fields.flags, 8)?;
-        push_number(row, fields.size, 8)?;
-        push_many(row, b'x', text)?;
-        push_many(row, 0, 480usize.saturating_sub(text))
+        let Fields {
+            sector,
+            sectors,
+            flags,
+            size,
+        } = fields;
+        for number in [sector, sectors, flags, size] {
+            row.extend_from_slice(&number.to_le_bytes())?;
+        }
+        row.extend(repeat_n(b'x', text))?;
+        row.extend(repeat_n(0, 480usize.saturating_sub(text)))
     }
 
     // A recording of one entry with so much text and data.
@@ -73,7 +71,7 @@ mod tables {
     ) -> Result<Vec<u8>, AllocError> {
         let mut row = head(heap, 1)?;
         push_sector(&mut row, fields, text)?;
-        push_many(&mut row, 9, content)?;
+        row.extend(repeat_n(9, content))?;
         Ok(row)
     }
 
@@ -82,12 +80,12 @@ mod tables {
         let mut row = head(heap, 3)?;
         push_sector(&mut row, MARK, 5)?;
         push_sector(&mut row, PLAIN, 0)?;
-        push_many(&mut row, 9, 512)?;
+        row.extend(repeat_n(9, 512))?;
         let discard = Fields {
             sector: 7,
             sectors: 2,
             flags: 4,
-            size: 0,
+            ..BARE
         };
         push_sector(&mut row, discard, 0)?;
         Ok(row)
@@ -132,25 +130,19 @@ mod tables {
                 *b ^= 1;
             }
             let answer = validate(row.as_slice());
-            if i == 16 || i == 17 {
-                assert!(rt; answer == Err(Refusal::Incomplete { entry: 1 }));
-            } else if i > 17 && i < 24 {
-                assert!(rt; answer == Err(Refusal::TooMany));
-            } else {
-                assert!(rt; answer == Err(Refusal::Head));
-            }
+            let refusal = match i {
+                16..=17 => Refusal::Incomplete { entry: 1 },
+                18..24 => Refusal::TooMany,
+                _ => Refusal::Head,
+            };
+            assert!(rt; answer == Err(refusal));
         }
         Ok(())
     }
 
     #[test]
     fn number_of_entries(rt: HostRuntime) -> Result<(), Fail> {
-        let flush = Fields {
-            sector: 0,
-            sectors: 0,
-            flags: 1,
-            size: 0,
-        };
+        let flush = Fields { flags: 1, ..BARE };
         let mut row = head(rt.alloc(), 256)?;
         for _ in 0..256 {
             push_sector(&mut row, flush, 0)?;
@@ -168,19 +160,13 @@ mod tables {
         let bare = [1u64, 3, 5, 8, 17, 19, 21];
         let whole = [0u64, 1, 2, 3, 4, 5, 16, 17, 18, 19, 20, 21];
         for flags in 0..64u64 {
-            let fields = Fields {
-                sector: 0,
-                sectors: 0,
-                flags,
-                size: 0,
-            };
+            let fields = Fields { flags, ..BARE };
             let row = single(rt.alloc(), fields, 0, 0)?;
             assert_eq!(rt; validate(row.as_slice()).is_ok(), bare.contains(&flags));
             let fields = Fields {
-                sector: 0,
                 sectors: 1,
                 flags,
-                size: 0,
+                ..BARE
             };
             let content = if flags & 4 == 0 { 512 } else { 0 };
             let row = single(rt.alloc(), fields, 0, content)?;
@@ -249,7 +235,7 @@ mod tables {
             told(u64::MAX, u64::MAX, 4, 0, 0, 0, Ok(1)),
             told(u64::MAX, 1 << 55, 4, 0, 0, 0, Ok(1)),
         ];
-        for c in cases.iter() {
+        for c in &cases {
             let row = single(rt.alloc(), c.fields, c.text, c.content)?;
             assert!(rt; validate(row.as_slice()) == c.answer);
         }
@@ -261,30 +247,25 @@ mod tables {
         let row = small(rt.alloc())?;
         let mut reader = Reader::open(row.as_slice())?;
         assert!(rt; reader.header()?.is_some());
-        match reader.next()? {
-            Some(Entry::Mark { text, place }) => {
-                assert!(rt; text == b"xxxxx".as_slice());
-                assert_eq!(rt; place, 544);
-            }
-            _ => return Err(Fail::new("no mark")),
-        }
-        match reader.next()? {
-            Some(
-                Entry::Write {
-                    sector,
-                    flush: _,
-                    fua: _,
-                    metadata: _,
-                    content,
-                    place,
-                },
-            ) => {
-                assert_eq!(rt; sector, 3);
-                assert_eq!(rt; content.len(), 512);
-                assert_eq!(rt; place, 1536);
-            }
-            _ => return Err(Fail::new("no write")),
-        }
+        let Some(Entry::Mark { text, place }) = reader.next()? else {
+            return Err(Fail::new("no mark"));
+        };
+        assert!(rt; text == b"xxxxx".as_slice());
+        assert_eq!(rt; place, 544);
+        let Some(
+            Entry::Write {
+                sector,
+                content,
+                place,
+                ..
+            },
+        ) = reader.next()?
+        else {
+            return Err(Fail::new("no write"));
+        };
+        assert_eq!(rt; sector, 3);
+        assert_eq!(rt; content.len(), 512);
+        assert_eq!(rt; place, 1536);
         assert_eq!(rt; reader.left(), 1);
         assert!(rt; reader.next()?.is_some());
         assert!(rt; reader.next()?.is_none());

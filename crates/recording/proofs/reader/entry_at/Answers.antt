@@ -7,24 +7,22 @@ use Rattle.recording.proofs.Made.{made_in, data_sectors, whole_sector, behind, n
 use Rattle.recording.proofs.Deciding.{from_sector, none_laid, given_laid}
 use Rattle.recording.proofs.reader.entry_at.Goals as goal
 
-pub returns-in_err-header : goal.returns-in_err-header
-returns-in_err-header c =
+pub returns-in_err-header-clause-laid : goal.returns-in_err-header-clause-laid
+returns-in_err-header-clause-laid c =
     let x = c.args.rest.now in
     let k = c.args.number in
     let p = err_from_is_err_and c.from_residual.result c.from_residual.ensures.1 in
-    let f = from_sector k x _ c.in_err-header.ensures in
-    rw (p.1, p.2) (record { found = f; laid = none_laid k x _ f })
+    rw p.1 (none_laid k x _ (from_sector k x _ c.in_err-header.ensures))
 
-pub returns-then-sectors-whole : goal.returns-then-sectors-whole
-returns-then-sectors-whole c =
+pub returns-then-sectors-whole-clause-laid : goal.returns-then-sectors-whole-clause-laid
+returns-then-sectors-whole-clause-laid c =
     let x = c.args.rest.now in
     let k = c.args.number in
     let e = c.in_ok-header.ensures in
     let n = c.data_sectors-sectors.result in
     let d : n ≡ data_in x = c.data_sectors-sectors.ensures ∙ data_sectors c.in_ok-header.header x e.1 in
     let b : length x < 512 + 512 * n = not_behind n (length x) c.if-sectors-whole.true in
-    let f = entry_cut k x e.0 (omega arith) in
-    record { found = f; laid = none_laid k x _ f }
+    none_laid k x _ (entry_cut k x e.0 (omega arith))
 
 pub returns : goal.returns
 returns c =

@@ -1,6 +1,6 @@
 -- Each flag is one bit of the field.
 use Rattle.recording.proofs.Bits.{bit_test}
-use Rattle.recording.proofs.fields.flags_of.Goals as goal
+use Rattle.recording.proofs.entry.Flags.from_bits.Goals as goal
 
 pub returns : goal.returns
 returns c = let b = c.args.bits in
