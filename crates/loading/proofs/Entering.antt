@@ -2,7 +2,6 @@
 use Rattle.std.proofs.Common.{◌≡◌, ℕ, zero, suc, ◌+◌, ◌-◌, ◌*◌, ◌<◌, ◌≤◌, Bool, true, false, cond, not, ◌&&◌, eqb, ltb, List, [], length, is_some, Some, None, Ok, Err, Option, Result, unwrap_or, sym, refl, ap, ◌∙◌, inl, inr, arith}
 use Rattle.std.specs.List.{between}
 use Rattle.std.proofs.lemmas.Bool.{cases_Bool, cases_eq, le-ltb, ltb-false, ne_eqb, eq-eqb}
-use Rattle.std.proofs.lemmas.List.{drop-drop}
 use Rattle.mark.specs.declared.mark.Mark.{Mark}
 use Rattle.mark.specs.declared.mark.Mark.TheVariants.{Comment}
 use Rattle.mark.specs.Found.{mark_of}
@@ -14,9 +13,10 @@ use Rattle.recording.specs.declared.entry.Reader.{Reader}
 use Rattle.recording.specs.Refusals as RC
 use Rattle.recording.specs.Items.{Item, write, discard, flush, mark, flags_of}
 use Rattle.recording.specs.Entries.{sector_in, sectors_in, bits_in, text_in, sector_cut, malformed, data_in, data_cut, item_in, rest_of}
-use Rattle.recording.specs.Reading.{ahead, next_number, HeaderAt, sector_fault, entry_fault, end_fault, reader_fault, moved, or_else}
+use Rattle.recording.specs.Reading.{ahead, next_number, HeaderAt, sector_fault, entry_fault, end_fault, reader_fault, Moved, or_else}
 use Rattle.recording.proofs.Made.{whole_sector}
 use Rattle.recording.proofs.Deciding.{well_formed}
+use Rattle.recording.proofs.Remaining.{numbered, moved_ahead}
 use Rattle.meaning.specs.Meanings.{mark_in}
 use Rattle.meaning.specs.Loads.{entries_from, onwards, unmarked, outside_in}
 use Rattle.loading.specs.declared.refusal.Refusal.{Refusal}
@@ -206,17 +206,18 @@ complete r l s e =
       | inr t ↦ t
     ]
 
-pub entry_read : (r : Reader) (used count : ℕ) (m : Mark) → r.left ≤ r.total → 0 < r.left → sector_fault (next_number r) (ahead r) ≡ None → Ok m ≡ asked_of (ahead r) (next_number r) used count → reader_fault r ≡ None → remaining r used count ≡ onwards (item_in (ahead r)) (remaining (moved r) (used + data_in (ahead r)) count)
+pub entry_read : (r t : Reader) (used count : ℕ) (m : Mark) → 0 < r.left → sector_fault (next_number r) (ahead r) ≡ None → Ok m ≡ asked_of (ahead r) (next_number r) used count → reader_fault r ≡ None → Moved r t →
+    remaining r used count ≡ onwards (item_in (ahead r)) (remaining t (used + data_in (ahead r)) count)
 unfolding after
-entry_read r used count m o l s a e =
+entry_read r t used count m l s a e v =
     let x = ahead r in
     let n = r.left in
     let k = next_number r in
-    let numbered : k + 1 ≡ next_number (moved r) = omega arith in
     past_sector n k used count x l s ∙ asked_tail n k used count x ∙ ap (λ q. after q (tail4 n k used count x)) (sym a)
     ∙ ap (λ b. cond b (Err (7, k)) (rest n k used count x)) (complete r l s e)
-    ∙ ap (λ j. onwards (item_in x) (entries_from (n - 1) j (used + data_in x) count (rest_of x))) numbered
-    ∙ ap (λ y. onwards (item_in x) (entries_from (n - 1) (next_number (moved r)) (used + data_in x) count y)) (drop-drop (512 + 512 * data_in x) r.place r.bytes.now)
+    ∙ ap (λ i. onwards (item_in x) (entries_from i (k + 1) (used + data_in x) count (rest_of x))) (sym v.left)
+    ∙ ap (λ j. onwards (item_in x) (entries_from t.left j (used + data_in x) count (rest_of x))) (numbered r t l v)
+    ∙ ap (λ y. onwards (item_in x) (entries_from t.left (next_number t) (used + data_in x) count y)) (moved_ahead r t v)
 
 -- THE MARK of the entry.
 marked_item : (isMark z d : Bool) (sector sectors : ℕ) (f : Flags) (text content : List ℕ) →

@@ -61,7 +61,6 @@ pub record Midway (s : List ℕ) (count : ℕ) (r : Reader) (n : ℕ) (t : Trace
   pub opened : open_fault s ≡ None
   pub means : Means t items
   pub same : glue items (remaining r n count) ≡ entries_of s count
-  pub ordered : r.left ≤ r.total
   pub few : n ≤ 96
 
 pub started : (s : List ℕ) (count : ℕ) (r : Reader) (t : Trace) → Opening s (Ok r) → vec_items t.steps ≡ [] → Midway s count r 0 t []
@@ -75,16 +74,14 @@ started s count r t o es =
           ∙ ap (λ n. entries_from n (next_number r) 0 count (ahead r)) o.4
           ∙ ap (λ k. entries_from (count_in s) k 0 count (ahead r)) one
           ∙ ap (entries_from (count_in s) 1 0 count) x;
-      ordered = let a = o.3 in let b = o.4 in omega arith;
       few = omega arith;
     }
 
-went : (s : List ℕ) (count : ℕ) (r q : Reader) (n m : ℕ) (t u : Trace) (items : List Item) (e : Item) → Midway s count r n t items → remaining r n count ≡ onwards e (remaining q m count) → Extends t u e → q.left ≤ q.total → m ≤ 96 → Midway s count q m u (items ++ e ∷ [])
-went s count r q n m t u items e w step x o f = record {
+went : (s : List ℕ) (count : ℕ) (r q : Reader) (n m : ℕ) (t u : Trace) (items : List Item) (e : Item) → Midway s count r n t items → remaining r n count ≡ onwards e (remaining q m count) → Extends t u e → m ≤ 96 → Midway s count q m u (items ++ e ∷ [])
+went s count r q n m t u items e w step x f = record {
   opened = w.opened;
   means = means_more t u items e w.means x;
   same = sym (glue_more items e (remaining q m count)) ∙ ap (glue items) (sym step) ∙ w.same;
-  ordered = o;
   few = f;
 }
 
@@ -93,7 +90,7 @@ pub went_on : (s : List ℕ) (count : ℕ) (r q : Reader) (n m : ℕ) (t u : Tra
 went_on s count r q n m t u more i e o =
     let P : Bool → Type 0 = λ b. OneRead count r q n m t u (Ok b) in
     let h = subst P e o in
-    (i.0 ++ h.0 ∷ [], went s count r q n m t u i.0 h.0 i.1 h.1 h.2 h.4 h.5)
+    (i.0 ++ h.0 ∷ [], went s count r q n m t u i.0 h.0 i.1 h.1 h.2 h.4)
 
 ended : (s : List ℕ) (count : ℕ) (r : Reader) (n : ℕ) (t : Trace) (items : List Item) → Midway s count r n t items → remaining r n count ≡ Ok [] → Loaded s count (Ok t)
 ended s count r n t items m e = (items, m.opened, sym m.same ∙ ap (glue items) e ∙ ap Ok (append-nil items), m.means)

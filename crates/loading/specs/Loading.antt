@@ -79,6 +79,6 @@ pub record Extends (t u : Trace) (e : Item) : Type 0 where
 -- or the end, or why not.
 abbrev pub OneRead : (count : ℕ) → (r s : Reader) → (n m : ℕ) → (t u : Trace) → Result Bool Refusal → Type 0
 OneRead count r s n m t u (Ok true) =
-    (e : Item) × (remaining r n count ≡ onwards e (remaining s m count)) × Extends t u e × (s.left + 1 ≡ r.left) × (s.left ≤ s.total) × (m ≤ 96)
+    (e : Item) × (remaining r n count ≡ onwards e (remaining s m count)) × Extends t u e × (s.left + 1 ≡ r.left) × (m ≤ 96)
 OneRead count r s n m t u (Ok false) = (remaining r n count ≡ Ok []) × (u ≡ t)
 OneRead count r s n m t u (Err f) = IsOfMemory f ⊎ (of_entries (remaining r n count) ≡ code_of f)

@@ -16,39 +16,22 @@ fn mark_of(header: &Header) -> Option<Mark>
     if !header.flags.mark {
         return Some(Mark::Comment);
     }
-    match read_mark(header.text) {
-        Ok(mark) => Some(mark),
-        Err(_) => None,
-    }
-}
-
-/// Whether so many sectors from `first` on touch one outside an image of `count`.
-fn is_outside(first: u64, sectors: u64, count: u64) -> bool
-    ensures { result ≡ nat_lt 0 sectors && nat_lt count (first + sectors) }
-{
-    sectors > 0 && (first > count || sectors > count - first)
+    read_mark(header.text).ok()
 }
 
 /// Whether an entry goes over the limit of 96 data sectors, `used` of which are used.
 fn is_too_much(header: &Header, used: usize) -> bool
     ensures { result ≡ nat_lt 96 (used + (if header.now.flags.discard then 0 else header.now.sectors)) }
 {
-    let more = if header.flags.discard {
-        0
-    } else {
-        header.sectors
-    };
-    used > 96 || more > 96 - used as u64
+    used > 96 || header.data_sectors() > 96 - used as u64
 }
 
 /// The mark of an entry, or why it is declined: for its text, its sectors, its data.
 pub fn ask(header: &Header, number: u64, used: usize, count: usize) -> Result<Mark, Refusal>
     ensures { result ≡ answered header.now number used count }
 {
-    let Some(mark) = mark_of(header) else {
-        return Err(Refusal::NoMark { entry: number });
-    };
-    if is_outside(header.sector, header.sectors, count as u64) {
+    let mark = mark_of(header).ok_or(Refusal::NoMark { entry: number })?;
+    if header.extent().is_outside(count as u64) {
         return Err(Refusal::Outside { entry: number });
     }
     if is_too_much(header, used) {

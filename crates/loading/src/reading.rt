@@ -18,7 +18,6 @@ fn read_entry(
     used: &mut usize,
     count: usize,
 ) -> Result<bool, Refusal>
-    requires ordered { reader.old.left ≤ reader.old.total }
     requires few { used.old ≤ 96 }
     requires small { count ≤ 64 }
     ensures { OneRead count reader.old reader.new used.old used.new trace.old trace.new result }

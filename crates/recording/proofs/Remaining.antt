@@ -43,10 +43,10 @@ unfolding recorded
 unopened s f e = ap (λ o. unless o (recorded_from (count_in s) 1 (drop 512 s))) e
 
 -- a step goes on to the next number, and leaves what is behind the entry
-numbered : (r t : Reader) → 0 < r.left → Moved r t → next_number r + 1 ≡ next_number t
+pub numbered : (r t : Reader) → 0 < r.left → Moved r t → next_number r + 1 ≡ next_number t
 numbered r t h m = let o = r.ordered in let a = m.total in let b = m.left in omega arith
 
-moved_ahead : (r t : Reader) → Moved r t → rest_of (ahead r) ≡ ahead t
+pub moved_ahead : (r t : Reader) → Moved r t → rest_of (ahead r) ≡ ahead t
 moved_ahead r t m =
     drop-drop (512 + 512 * data_in (ahead r)) r.place r.bytes.now
     ∙ ap (λ p. drop p r.bytes.now) (sym m.place) ∙ ap (λ b. drop t.place b.now) (sym m.bytes)

@@ -3,7 +3,7 @@ use Rattle.std.proofs.Common.{◌≡◌, ◌+◌, ◌-◌, Ok, Option, sym, refl
 use Rattle.recording.specs.declared.entry.Entry.{Entry}
 use Rattle.recording.specs.declared.entry.Header.{Header}
 use Rattle.recording.specs.Entries.{data_in}
-use Rattle.recording.specs.Reading.{ahead, next_number, item_seen, moved, Heading, Stepping}
+use Rattle.recording.specs.Reading.{ahead, next_number, item_seen, Heading, Stepping}
 use Rattle.meaning.specs.Meanings.{mark_in}
 use Rattle.meaning.specs.Loads.{onwards}
 use Rattle.loading.specs.Loading.{remaining}
@@ -67,18 +67,14 @@ returns-in-Ok-push_entry c =
     let acc = ask_accepted x c.in-Some.header ((c.total.result - c.left.result) + 1) n count m h.2 c.in-Ok-ask.ensures in
     let d : n + c.data_sectors.result ≡ n + data_in x = ap (λ i. n + i) (c.data_sectors.ensures ∙ header_data c.in-Some.header x h.2) in
     let mk : m ≡ mark_in e = mark_read x n count m acc ∙ ap mark_in (sym t.2) in
-    let left : s.left ≡ r.left - 1 = ap (λ z. z.left) t.4 in
-    let total : s.total ≡ r.total = ap (λ z. z.total) t.4 in
+    let left = t.4.left in
     let some = h.0 in
-    let ordered = c.requires.ordered in
     let few = acc.few in (
       e,
-      entry_read r n count m c.requires.ordered h.0 h.1 a t.1
-          ∙ ap (λ i. onwards i (remaining (moved r) (n + data_in x) count)) (sym t.2)
-          ∙ ap (λ z. onwards e (remaining z (n + data_in x) count)) (sym t.4)
+      entry_read r s n count m h.0 h.1 a t.1 t.4
+          ∙ ap (λ i. onwards i (remaining s (n + data_in x) count)) (sym t.2)
           ∙ ap (λ i. onwards e (remaining s i count)) (sym d),
       extended c.args.trace.now c.push_entry.new.trace e m mk c.in-Ok-push_entry.ensures.effects c.in-Ok-push_entry.ensures.marks,
-      omega arith,
       omega arith,
       omega arith,
     )
