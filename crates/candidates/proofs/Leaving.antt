@@ -1,8 +1,8 @@
 -- Leaving out what has equal contents, one number after the other.
-use Rattle.std.proofs.Common.{◌≡◌, ℕ, zero, suc, ◌+◌, ◌-◌, ◌<◌, ◌≤◌, Bool, true, false, cond, not, ◌||◌, List, [], ◌∷◌, ◌++◌, length, get_or, take, Err, filter, sym, refl, ap, ◌∙◌, le_of_suc-le-suc, arith}
+use Rattle.std.proofs.Common.{◌≡◌, ℕ, zero, suc, ◌+◌, ◌<◌, ◌≤◌, Bool, true, false, cond, not, ◌||◌, List, [], ◌∷◌, ◌++◌, length, get_or, take, Err, filter, refl, ap, ◌∙◌, arith}
 use Rattle.std.specs.Str.{bytes_eq}
 use Rattle.std.proofs.lemmas.List.Elements.{filter-append}
-use Rattle.std.proofs.lemmas.List.{take_more, length-take-le}
+use Rattle.std.proofs.lemmas.List.{take_more, length-take-le, append-nil}
 use Rattle.crash.specs.Lists.{firsts}
 use Rattle.crash.specs.Rules.{Recording, written}
 use Rattle.crash.specs.States.{numbers, candidate_numbers}
@@ -12,31 +12,6 @@ use Rattle.candidates.specs.declared.refusal.Refusal.TheVariants.{SectorNumber, 
 use Rattle.candidates.specs.Gathering.{repeated, Gathered, Found}
 
 module _ (value : ℕ → List ℕ) where
-  pub repeated_push : (ks : List ℕ) (k n : ℕ) → repeated value (ks ++ k ∷ []) n ≡ repeated value ks n || bytes_eq (value k) (value n)
-  repeated_push [] k n = or_false (bytes_eq (value k) (value n))
-    where
-      or_false : (b : Bool) → b || false ≡ b
-      or_false true = refl
-      or_false false = refl
-  repeated_push (z ∷ ks) k n = ap (λ b. bytes_eq (value z) (value n) || b) (repeated_push ks k n) ∙ or_assoc (bytes_eq (value z) (value n)) (repeated value ks n) (bytes_eq (value k) (value n))
-    where
-      or_assoc : (a b c : Bool) → a || (b || c) ≡ (a || b) || c
-      or_assoc true b c = refl
-      or_assoc false b c = refl
-
-  pub repeated_at : (ks : List ℕ) (i n : ℕ) → i < length ks → bytes_eq (value (get_or ks i 0)) (value n) ≡ true → repeated value ks n ≡ true
-  repeated_at [] i n h e = absurd (omega arith)
-  repeated_at (k ∷ ks) zero n h e = ap (λ b. b || repeated value ks n) e
-  repeated_at (k ∷ ks) (suc i) n h e = ap (λ b. bytes_eq (value k) (value n) || b) (repeated_at ks i n (le_of_suc-le-suc h) e) ∙ or_true (bytes_eq (value k) (value n))
-    where
-      or_true : (b : Bool) → b || true ≡ true
-      or_true true = refl
-      or_true false = refl
-
-  pub repeated_more : (ks : List ℕ) (i n : ℕ) → i < length ks → repeated value (take i ks) n ≡ false → bytes_eq (value (get_or ks i 0)) (value n) ≡ false → repeated value (take (i + 1) ks) n ≡ false
-  repeated_more ks i n h e f =
-      ap (λ l. repeated value l n) (take_more ks i 0 h) ∙ repeated_push (take i ks) (get_or ks i 0) n ∙ ap (λ b. b || bytes_eq (value (get_or ks i 0)) (value n)) e ∙ f
-
   -- a number stays unless its content has stood before
   unseen : (b a : Bool) (z n : ℕ) → bytes_eq (value z) (value n) ≡ b → filter (λ k. not (bytes_eq (value z) (value k))) (cond a [] (n ∷ [])) ≡ cond (b || a) [] (n ∷ [])
   unseen true true z n e = refl
@@ -54,6 +29,13 @@ module _ (value : ℕ → List ℕ) where
   pub firsts_more : (ks : List ℕ) (i : ℕ) → i < length ks → firsts value (take (i + 1) ks) ≡ firsts value (take i ks) ++ cond (repeated value (take i ks) (get_or ks i 0)) [] (get_or ks i 0 ∷ [])
   firsts_more ks i h = ap (firsts value) (take_more ks i 0 h) ∙ firsts_push (take i ks) (get_or ks i 0)
 
+  -- the number at i stays, or is left out
+  pub firsts_stays : (ks : List ℕ) (i : ℕ) → i < length ks → repeated value (take i ks) (get_or ks i 0) ≡ false → firsts value (take (i + 1) ks) ≡ firsts value (take i ks) ++ get_or ks i 0 ∷ []
+  firsts_stays ks i h e = firsts_more ks i h ∙ ap (λ b. firsts value (take i ks) ++ cond b [] (get_or ks i 0 ∷ [])) e
+
+  pub firsts_leaves : (ks : List ℕ) (i : ℕ) → i < length ks → repeated value (take i ks) (get_or ks i 0) ≡ true → firsts value (take (i + 1) ks) ≡ firsts value (take i ks)
+  firsts_leaves ks i h e = firsts_more ks i h ∙ ap (λ b. firsts value (take i ks) ++ cond b [] (get_or ks i 0 ∷ [])) e ∙ append-nil (firsts value (take i ks))
+
   length_kept : (test : ℕ → Bool) (ks : List ℕ) → length (filter test ks) ≤ length ks
   length_kept test [] = omega arith
   length_kept test (k ∷ ks) = go (test k) (length_kept test ks)
@@ -69,17 +51,7 @@ module _ (value : ℕ → List ℕ) where
       let b = length_firsts ks in
       omega arith
 
--- one turn of the loop over the numbers
-pub leave_turn : (value : ℕ → List ℕ) (ks : List ℕ) (i : ℕ) (stay on : List ℕ) (b : Bool) → i < length ks → stay ≡ firsts value (take i ks) →
-    b ≡ repeated value (take (i - 0) ks) (get_or ks i 0) → on ≡ stay ++ cond b [] (get_or ks i 0 ∷ []) → on ≡ firsts value (take (i + 1) ks)
-leave_turn value ks i stay on b h e f g =
-    let z : i - 0 ≡ i = omega arith in
-    let q : b ≡ repeated value (take i ks) (get_or ks i 0) = f ∙ ap (λ n. repeated value (take n ks) (get_or ks i 0)) z in
-    g
-    ∙ ap (λ l. l ++ cond b [] (get_or ks i 0 ∷ [])) e
-    ∙ ap (λ r. firsts value (take i ks) ++ cond r [] (get_or ks i 0 ∷ [])) q
-    ∙ sym (firsts_more value ks i h)
-
+-- there is room for one number more
 pub leave_room : (value : ℕ → List ℕ) (ks : List ℕ) (i : ℕ) (stay : List ℕ) → i < length ks → length ks ≤ 8 → stay ≡ firsts value (take i ks) → length stay < 8
 leave_room value ks i stay h l e =
     let a = length_firsts value (take i ks) in

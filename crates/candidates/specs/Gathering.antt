@@ -1,5 +1,6 @@
 -- What the gathering of a sector's candidates answers.
-use Rattle.std.specs.Prelude.{◌≡◌, ℕ, ◌<◌, ◌≤◌, Bool, false, ◌||◌, List, [], ◌∷◌, length, Ok, Err, Result}
+use Rattle.std.specs.Prelude.{◌≡◌, ℕ, ◌<◌, ◌≤◌, Bool, List, length, Ok, Err, Result}
+use Rattle.std.specs.List.{list_any}
 use Rattle.std.specs.Str.{bytes_eq}
 use Rattle.crash.specs.Rules.{Recording}
 use Rattle.crash.specs.States.{numbers, candidate_numbers}
@@ -29,8 +30,7 @@ Gathered d p s (Err (States q)) = ⊥
 
 -- the content of a number stands among those of earlier numbers
 abbrev pub repeated : (ℕ → List ℕ) → (earlier : List ℕ) → ℕ → Bool
-repeated value [] n = false
-repeated value (k ∷ ks) n = bytes_eq (value k) (value n) || repeated value ks n
+repeated value earlier n = list_any (λ k. bytes_eq (value k) (value n)) earlier
 
 -- the numbers of the candidates of sector s at p, or why there are none: the sector is asked for first
 abbrev pub Found : Recording → (p s : ℕ) → Result (Few ℕ) Refusal → Type 0

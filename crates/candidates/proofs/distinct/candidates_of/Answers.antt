@@ -1,4 +1,5 @@
 use Rattle.std.proofs.Common.{◌<◌, length, ap, ◌∙◌, arith}
+use Rattle.std.proofs.lemmas.Result.{err_from_is_err_and}
 use Rattle.image.specs.Sectors.{Sector}
 use Rattle.crash.specs.Lists.{firsts}
 use Rattle.trace.specs.Meaning.{effects_of, recording_of, content_at}
@@ -6,23 +7,24 @@ use Rattle.candidates.specs.Lists.{listed}
 use Rattle.candidates.proofs.Leaving.{firsts_candidates, found_declined}
 use Rattle.candidates.proofs.distinct.candidates_of.Goals as goal
 
-pub returns-in-Ok : goal.returns-in-Ok
-returns-in-Ok g c =
+pub returns-in_err-numbers : goal.returns-in_err-numbers
+returns-in_err-numbers g c =
+    let image = g.S.ImageStore.sectors c.args.base.now in
+    let inside : c.args.sector < length image = omega (arith, c.count.ensures.number, c.if-sector-count.false) in
+    let p = err_from_is_err_and c.from_residual.result c.from_residual.ensures.1 in
+    rw (p.1, p.2) (found_declined (recording_of image c.args.trace.now) c.args.point c.args.sector _ inside (c.in_err-numbers.ensures image))
+
+pub returns : goal.returns
+returns g c =
     let image = g.S.ImageStore.sectors c.args.base.now in
     let t = c.args.trace.now in
     let s = c.args.sector in
     let inside : s < length image = omega (arith, c.count.ensures.number, c.if-sector-count.false) in
-    let h = c.in-Ok.ensures image in (
+    let h = c.in_ok-numbers.ensures image in (
       inside,
       h.0,
       c.leave_out.ensures
-          ∙ ap (λ (x : Sector). firsts (content_at x (effects_of t) s) (listed c.in-Ok.numbers)) c.fetch-content.ensures
+          ∙ ap (λ (x : Sector). firsts (content_at x (effects_of t) s) (listed c.in_ok-numbers.numbers)) (c.fetch-content.ensures.inside inside)
           ∙ ap (firsts (content_at _ (effects_of t) s)) h.1
           ∙ firsts_candidates (recording_of image t) c.args.point s,
     )
-
-pub returns-in-Err : goal.returns-in-Err
-returns-in-Err g c =
-    let image = g.S.ImageStore.sectors c.args.base.now in
-    let inside : c.args.sector < length image = omega (arith, c.count.ensures.number, c.if-sector-count.false) in
-    found_declined (recording_of image c.args.trace.now) c.args.point c.args.sector c.in-Err.refusal inside (c.in-Err.ensures image)
