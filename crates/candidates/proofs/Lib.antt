@@ -1,4 +1,2 @@
-pub mod Turning
-pub mod Walking
 pub mod Leaving
-pub mod Marking
+pub mod Walking

@@ -17,16 +17,21 @@ FirstAbove count p q = (q ≤ p) × (8 < count q) × ((k : ℕ) → k < q → co
 abbrev pub NoneAbove : (ℕ → ℕ) → (p : ℕ) → Type 0
 NoneAbove count p = (q : ℕ) → q ≤ p → count q ≤ 8
 
+-- The history of a key walks through one list for each point: what it holds at p, or the first point up to there whose
+-- list is longer than 8.
+abbrev pub Walked : {X : Type 0} → (ℕ → List X) → (p : ℕ) → Result (Few X) Refusal → Type 0
+Walked at p (Ok few) = NoneAbove (λ q. length (at q)) p × (listed few ≡ at p)
+Walked at p (Err SectorNumber) = ⊥
+Walked at p (Err (Candidates q)) = FirstAbove (λ q. length (at q)) p q
+Walked at p (Err (States q)) = ⊥
+
 -- how many numbers of sector s are not struck out at a point
 abbrev pub numbers_at : Recording → (s : ℕ) → ℕ → ℕ
 numbers_at d s q = length (numbers d q s)
 
 -- the numbers that are not struck out at p, or the first point up to there at which they are more than 8
 abbrev pub Gathered : Recording → (p s : ℕ) → Result (Few ℕ) Refusal → Type 0
-Gathered d p s (Ok few) = NoneAbove (numbers_at d s) p × (listed few ≡ numbers d p s)
-Gathered d p s (Err SectorNumber) = ⊥
-Gathered d p s (Err (Candidates q)) = FirstAbove (numbers_at d s) p q
-Gathered d p s (Err (States q)) = ⊥
+Gathered d p s = Walked (λ q. numbers d q s) p
 
 -- the content of a number stands among those of earlier numbers
 abbrev pub repeated : (ℕ → List ℕ) → (earlier : List ℕ) → ℕ → Bool

@@ -1,18 +1,22 @@
--- What one entry leaves of a history.
-use Rattle.std.specs.Prelude.{ℕ, Bool, cond, List, vec_items}
+-- What an entry leaves of the history of a key.
+use Rattle.std.specs.Prelude.{◌≡◌, ℕ, ◌+◌, ◌<◌, Bool, cond, Option, Some, None, List, [], ◌∷◌}
 use Rattle.crash.specs.Walk.{put, settle}
-use Rattle.trace.specs.declared.steps.Trace.{Trace}
-use Rattle.trace.specs.declared.steps.Step.{Step}
-use Rattle.trace.specs.Meaning.{covering, step_at}
+use Rattle.candidates.specs.declared.turns.Turn.{Turn}
 
 -- a value is put; with FUA the history is settled before and after
 abbrev pub written_by : {X : Type 0} → Bool → X → List X → List X
 written_by fua x held = cond fua (settle (put (settle held) x)) (put held x)
 
--- what a step leaves of the history of sector s, if x is what it puts
-abbrev pub stepped : {X : Type 0} → Step → (s : ℕ) → X → List X → List X
-stepped step s x held = cond (covering step s) (written_by step.fua x (cond step.flush (settle held) held)) (cond step.flush (settle held) held)
+-- a value may be put
+abbrev pub added : {X : Type 0} → Option X → Bool → List X → List X
+added None fua held = held
+added (Some x) fua held = written_by fua x held
 
--- what the entry of a number leaves of it
-unfoldable pub turned : Trace → (s number : ℕ) → List ℕ → List ℕ
-turned t s number held = stepped (step_at (vec_items t.steps) number) s number held
+-- the history is settled first
+abbrev pub turned : {X : Type 0} → Turn X → List X → List X
+turned t held = added t.puts t.fua (cond t.settles (settle held) held)
+
+-- The lists of the points follow each other by the turns that the entries up to p may have, from the first value alone.
+pub record Follows {X : Type 0} (gives : ℕ → Turn X → Type 0) (start : X) (p : ℕ) (at : ℕ → List X) : Type 0 where
+  pub first : at 0 ≡ start ∷ []
+  pub next : (k : ℕ) (t : Turn X) → k < p → gives (k + 1) t → at (k + 1) ≡ turned t (at k)

@@ -9,6 +9,7 @@ mod nodes;
 mod refusal;
 mod sectors;
 mod turns;
+mod walk;
 
 pub use distinct::{candidates_of, leave_out};
 pub use eight::Few;

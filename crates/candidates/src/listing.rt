@@ -13,6 +13,19 @@ impl<T: Copy> Few<T> {
         Few { cells, used: 0 }
     }
 
+    /// A copy of at most eight values; `fill` stands in the free cells.
+    pub(crate) fn of(values: &[T], fill: T) -> Few<T>
+        requires { length values.now ≤ 8 }
+        ensures { listed result ≡ values.now }
+    {
+        let mut cells = [fill; 8];
+        cells[..values.len()].copy_from_slice(values);
+        Few {
+            cells,
+            used: values.len(),
+        }
+    }
+
     /// Adds a value at the end.
     pub(crate) fn push(&mut self, value: T)
         requires { length (listed self.old) < 8 }
@@ -40,16 +53,4 @@ impl<T: Copy> Few<T> {
         let Few { cells, used } = self;
         (cells, used)
     }
-}
-
-/// A copy of at most eight values.
-pub(crate) fn few_of<T: Copy>(values: &[T], fill: T) -> Few<T>
-    requires { length values.now ≤ 8 }
-    ensures { listed result ≡ values.now }
-{
-    let mut few = Few::empty(fill);
-    for value in values {
-        few.push(*value);
-    }
-    few
 }

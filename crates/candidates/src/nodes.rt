@@ -1,40 +1,21 @@
 //! The candidates of a node at a point, by the marks.
-ghost use Rattle.std.specs.Prelude.{◌≡◌, ℕ, ◌+◌, true, length, is_ok, if◌then◌else◌, nat_le};
-ghost use Rattle.history.specs.Held.{held};
-ghost use Rattle.crash.specs.Walk.{put};
-ghost use Rattle.crash.specs.Nodes.{node_turn};
+ghost use Rattle.std.specs.Prelude.{◌≡◌, List, Some, None, if◌then◌else◌};
+ghost use Rattle.crash.specs.Nodes.{is_put, value_of, node_turn};
 ghost use Rattle.trace.specs.Meaning.{marks_of};
+ghost use Rattle.candidates.specs.Turns.{turned};
 ghost use Rattle.candidates.specs.Noding.{NodeGathered};
 
 use crate::eight::Few;
-use crate::listing::few_of;
 use crate::refusal::Refusal;
-use crate::turns::{settle_if, write};
-use history::{CELLS, History};
+use crate::turns::Turn;
+use crate::walk::walk;
 use mark::Mark;
 use trace::Trace;
 use tree::Node;
 
-/// Puts a value where that is due.
-fn put_if(history: &mut History<Node>, due: bool, value: Node) -> Result<(), history::Refusal>
-    requires { length history.old.cells.now ≡ 8 }
-    ensures answer { is_ok result ≡ nat_le (length (if due then put (held history.old) value else held history.old)) 8 }
-    ensures values { is_ok result ≡ true → held history.new ≡ (if due then put (held history.old) value else held history.old) }
-    ensures cells { length history.new.cells.now ≡ 8 }
-{
-    if due {
-        write(history, value, false)
-    } else {
-        Ok(())
-    }
-}
-
-/// What a mark leaves of the history of a node.
-fn turn_node(history: &mut History<Node>, mark: Mark, node: usize) -> Result<(), history::Refusal>
-    requires { length history.old.cells.now ≡ 8 }
-    ensures answer { is_ok result ≡ nat_le (length (node_turn mark node (held history.old))) 8 }
-    ensures values { is_ok result ≡ true → held history.new ≡ node_turn mark node (held history.old) }
-    ensures cells { length history.new.cells.now ≡ 8 }
+/// The value that a mark puts on a node.
+fn put_by(mark: Mark, node: usize) -> Option<Node>
+    ensures { result ≡ (if is_put mark node then Some (value_of mark) else None) }
 {
     match mark {
         Mark::File {
@@ -42,24 +23,27 @@ fn turn_node(history: &mut History<Node>, mark: Mark, node: usize) -> Result<(),
             parent,
             length,
             print,
-        } => put_if(
-            history,
-            k as usize == node,
-            Node::File {
-                parent,
-                length,
-                print,
-            },
-        ),
-        Mark::Directory { node: k, parent } => {
-            put_if(history, k as usize == node, Node::Directory { parent })
-        }
-        Mark::Absent { node: k } => put_if(history, k as usize == node, Node::Absent),
-        Mark::Sync { node: k } => {
-            settle_if(history, k as usize == node);
-            Ok(())
-        }
-        Mark::Comment => Ok(()),
+        } if k as usize == node => Some(Node::File {
+            parent,
+            length,
+            print,
+        }),
+        Mark::Directory { node: k, parent } if k as usize == node => Some(Node::Directory {
+            parent,
+        }),
+        Mark::Absent { node: k } if k as usize == node => Some(Node::Absent),
+        _ => None,
+    }
+}
+
+/// What a mark does to the history of a node.
+fn turn(mark: Mark, node: usize) -> Turn<Node>
+    ensures { (held : List Node) → turned result held ≡ node_turn mark node held }
+{
+    Turn {
+        settles: matches!(mark, Mark::Sync { node: k } if k as usize == node),
+        puts: put_by(mark, node),
+        fua: false,
     }
 }
 
@@ -73,13 +57,5 @@ pub fn node_values(
 ) -> Result<Few<Node>, Refusal>
     ensures { NodeGathered start (marks_of trace.now) node point result }
 {
-    let mut cells = [Node::Absent; CELLS];
-    let mut history = History::start(&mut cells, start);
-    for k in 0..point {
-        match turn_node(&mut history, trace.mark(k + 1), node) {
-            Ok(()) => {}
-            Err(_) => return Err(Refusal::Candidates { point: k + 1 }),
-        }
-    }
-    Ok(few_of(history.values(), Node::Absent))
+    walk(start, point, |k| turn(trace.mark(k), node))
 }

@@ -1,38 +1,34 @@
 //! The numbers of a sector's candidates at a point, before equal contents are left out.
-ghost use Rattle.std.specs.Prelude.{◌≡◌, ℕ, ◌+◌, ◌^◌, ◌<◌, true, length, is_ok, nat_le};
+ghost use Rattle.std.specs.Prelude.{◌≡◌, ℕ, List};
 ghost use Rattle.image.specs.Sectors.{Image};
-ghost use Rattle.history.specs.Held.{held};
+ghost use Rattle.crash.specs.Rules.{effect_at};
+ghost use Rattle.crash.specs.Walk.{turn as turn_by};
 ghost use Rattle.trace.specs.Meaning.{recording_of};
 ghost use Rattle.candidates.specs.Turns.{turned};
 ghost use Rattle.candidates.specs.Gathering.{Gathered};
 
 use crate::eight::Few;
-use crate::listing::few_of;
 use crate::refusal::Refusal;
-use crate::turns::{settle_if, write};
-use history::{CELLS, History};
+use crate::turns::Turn;
+use crate::walk::walk;
 use trace::Trace;
 
-/// What entry `number` leaves of the history of a sector.
-fn turn(
-    history: &mut History<usize>,
-    trace: &Trace,
-    sector: usize,
-    number: usize,
-) -> Result<(), history::Refusal>
-    requires { length history.old.cells.now ≡ 8 }
-    ensures answer { is_ok result ≡ nat_le (length (turned trace.now sector number (held history.old))) 8 }
-    ensures values { is_ok result ≡ true → held history.new ≡ turned trace.now sector number (held history.old) }
-    ensures cells { length history.new.cells.now ≡ 8 }
+/// What entry `number` does to the history of a sector.
+fn turn(trace: &Trace, sector: usize, number: usize) -> Turn<usize>
+    ensures { (base : Image) (held : List ℕ) → turned result held ≡ turn_by (effect_at (recording_of base trace.now) number) sector number held }
 {
     let Some(step) = trace.step(number) else {
-        return Ok(());
+        return Turn {
+            settles: false,
+            puts: None,
+            fua: false,
+        };
     };
-    settle_if(history, step.flush);
-    if step.covers(sector) {
-        write(history, number, step.fua)
-    } else {
-        Ok(())
+    let writes = step.covers(sector);
+    Turn {
+        settles: step.flush,
+        puts: writes.then_some(number),
+        fua: step.fua,
     }
 }
 
@@ -41,13 +37,5 @@ fn turn(
 pub fn gather(trace: &Trace, sector: usize, point: usize) -> Result<Few<usize>, Refusal>
     ensures { (base : Image) → Gathered (recording_of base trace.now) point sector result }
 {
-    let mut cells = [0usize; CELLS];
-    let mut history = History::start(&mut cells, 0);
-    for k in 0..point {
-        match turn(&mut history, trace, sector, k + 1) {
-            Ok(()) => {}
-            Err(_) => return Err(Refusal::Candidates { point: k + 1 }),
-        }
-    }
-    Ok(few_of(history.values(), 0))
+    walk(0, point, |number| turn(trace, sector, number))
 }

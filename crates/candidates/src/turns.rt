@@ -1,34 +1,35 @@
-//! How one entry changes a history.
-ghost use Rattle.std.specs.Prelude.{◌≡◌, true, length, is_ok, if◌then◌else◌, nat_le};
-ghost use Rattle.history.specs.Held.{held, last};
-ghost use Rattle.candidates.specs.Turns.{written_by};
+//! How one entry changes the history of a key.
+ghost use Rattle.std.specs.Prelude.{◌≡◌, ◌<◌, length, MatchResult};
+ghost use Rattle.history.specs.Held.{held};
+ghost use Rattle.candidates.specs.Turns.{turned};
 
 use history::{History, Refusal};
 
-/// Settles a history where that is due.
-pub fn settle_if<T: Copy>(history: &mut History<T>, due: bool)
-    requires { length history.old.cells.now ≡ 8 }
-    ensures values { held history.new ≡ (if due then last (held history.old) else held history.old) }
-    ensures cells { length history.new.cells.now ≡ 8 }
-{
-    if due {
-        match history.settle() {
-            Ok(()) => {}
-            Err(_) => unreachable(),
-        }
-    }
+/// What an entry does to the history of a key: it settles the history, then it puts a value. With
+/// FUA the history is settled before and after the value is put, so that a full one is no obstacle.
+#[derive(Clone, Copy)]
+pub struct Turn<T> {
+    pub settles: bool,
+    pub puts: Option<T>,
+    pub fua: bool,
 }
 
-/// Puts a value that an entry writes. With FUA the history is settled before and after, so that
-/// a full one is no obstacle.
-pub fn write<T: Copy>(history: &mut History<T>, value: T, fua: bool) -> Result<(), Refusal>
+/// Changes a history of 8 cells as a turn says; it declines where more than 8 values were left.
+pub fn apply<T: Copy>(history: &mut History<T>, turn: Turn<T>) -> Result<(), Refusal>
     requires { length history.old.cells.now ≡ 8 }
-    ensures answer { is_ok result ≡ nat_le (length (written_by fua value (held history.old))) 8 }
-    ensures values { is_ok result ≡ true → held history.new ≡ written_by fua value (held history.old) }
+    ensures values { MatchResult result (λ _. held history.new ≡ turned turn (held history.old)) (λ _. 8 < length (turned turn (held history.old))) }
     ensures cells { length history.new.cells.now ≡ 8 }
 {
-    settle_if(history, fua);
-    let answer = history.put(value);
-    settle_if(history, fua);
-    answer
+    if turn.settles {
+        history.settle()?;
+    }
+    match turn.puts {
+        None => Ok(()),
+        Some(value) if turn.fua => {
+            history.settle()?;
+            history.put(value)?;
+            history.settle()
+        }
+        Some(value) => history.put(value),
+    }
 }
