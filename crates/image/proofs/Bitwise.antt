@@ -44,13 +44,17 @@ has_with m n k h =
     ∙ ap (λ x. eqb x 1) (or_mod (m / 2 ^ k) (2 ^ n / 2 ^ k) 1)
     ∙ or_two (m / 2 ^ k % 2) (2 ^ n / 2 ^ k % 2) (eqb k n) (has_one n k) (two (m / 2 ^ k))
 
-pub has_and : (m n : ℕ) → eqb (bit_and (m / 2 ^ n) 1) 1 ≡ has m n
+pub has_set : (m n : ℕ) → (bit_and (m / 2 ^ n) 1 ≡ 0 → ⊥) → has m n ≡ true
 unfolding has
-has_and m n = ap (λ x. eqb x 1) (and_mask (m / 2 ^ n) 1)
+has_set m n ne = elim (two (m / 2 ^ n)) [ inl e ↦ absurd (ne (and_mask (m / 2 ^ n) 1 ∙ e)) | inr e ↦ ap (λ x. eqb x 1) e ]
 
-pub has_none : (k : ℕ) → has 0 k ≡ false
+pub has_unset : (m n : ℕ) → bit_and (m / 2 ^ n) 1 ≡ 0 → has m n ≡ false
 unfolding has
-has_none k = ap (λ x. eqb (x % 2) 1) (zero-div (2 ^ k))
+has_unset m n e = ap (λ x. eqb x 1) (sym (and_mask (m / 2 ^ n) 1) ∙ e)
+
+pub has_none : (m k : ℕ) → m ≡ 0 → has m k ≡ false
+unfolding has
+has_none m k e = ap (λ n. eqb (n / 2 ^ k % 2) 1) e ∙ ap (λ x. eqb (x % 2) 1) (zero-div (2 ^ k))
 
 one_bit : (x : ℕ) → ones (x % 2) ≡ cond (eqb (x % 2) 1) 1 0
 unfolding ones

@@ -17,6 +17,13 @@ within len n h = omega (arith, div-add-mod' len 512)
 pub cut_at : (b : List ℕ) (n : ℕ) → n < count_in (length b) → slice_index_or (cut b) n [] ≡ sector_at b n
 cut_at b n h = get_or-map-range_with_len (sector_at b) 0 (count_in (length b)) n n [] h (omega arith)
 
+-- the same of a sector of the image that a row means
+pub within_cut : (b : List ℕ) (n : ℕ) → n < length (cut b) → 512 * n + 512 ≤ length b
+within_cut b n h = within (length b) n (rw length_cut at h)
+
+pub cut_index : (b : List ℕ) (n : ℕ) → n < length (cut b) → slice_index_or (cut b) n [] ≡ sector_at b n
+cut_index b n h = cut_at b n (rw length_cut at h)
+
 pub length_sector : (b : List ℕ) (n : ℕ) → 512 * n + 512 ≤ length b → length (sector_at b n) ≡ 512
 length_sector b n h = simp (length-take, length-drop) (omega arith)
 
@@ -95,3 +102,13 @@ untouched_onward s t u p q = (
   q.0 ∙ p.0,
   ap (λ n. drop (512 * count_in n) u) (sym p.0) ∙ q.1 ∙ ap (λ n. drop (512 * count_in n) t) p.0 ∙ p.1,
 )
+
+-- a write of a sector that counts: the image after it, and what it leaves of the row
+pub cut_written : (b : List ℕ) (n : ℕ) (s : List ℕ) → n < length (cut b) → length s ≡ 512 → cut (put b n s) ≡ slice_set (cut b) n s
+cut_written b n s h whole = cut_put b n s (within_cut b n h) whole (rw length_cut at h)
+
+pub put_untouched : (b : List ℕ) (n : ℕ) (s : List ℕ) → n < length (cut b) → length s ≡ 512 → Untouched b (put b n s)
+put_untouched b n s h whole =
+    let w = within_cut b n h in
+    let l : n < count_in (length b) = rw length_cut at h in
+    (length_put b n s w whole, past b n s w whole (512 * count_in (length b)) (omega arith))

@@ -1,13 +1,13 @@
 //! The store that stands on a row of bytes.
 ghost use Rattle.std.specs.Prelude.{◌≡◌, length, is_ok, if◌then◌else◌, slice_set, refl};
 ghost use Rattle.std.proofs.Common.{◌∙◌};
-ghost use Rattle.image.specs.Sectors.{cut, put, count_in, Untouched};
+ghost use Rattle.image.specs.Sectors.{cut, put, Untouched};
 ghost use Rattle.image.specs.Cuts.{untouched_self, untouched_onward};
 ghost use Rattle.image.specs.Refusals.{access};
 
 use crate::refusal::Refusal;
-use crate::rows::{get_sector, put_sector, row_length};
-use crate::store::ImageStore;
+use crate::rows::{get_sector, is_row, put_sector};
+use crate::store::{ImageStore, access};
 use crate::{MOST, SECTOR};
 
 /// The sectors that lie whole in a row of bytes, the first 64 of them.
@@ -25,13 +25,6 @@ impl<'a> Flat<'a> {
     }
 }
 
-/// How many sectors count in so many bytes.
-fn sectors_in(size: usize) -> usize
-    ensures { result ≡ count_in size }
-{
-    (size / SECTOR).min(MOST)
-}
-
 impl<'a> ImageStore for Flat<'a> {
     ghost sectors = { λ s. cut s.bytes.now };
 
@@ -42,34 +35,28 @@ impl<'a> ImageStore for Flat<'a> {
 
     ghost onward = { λ s t u p q. (q.0 ∙ p.0, untouched_onward s.bytes.now t.bytes.now u.bytes.now p.1 q.1) };
 
+    #[tactic(auto, using(crate::specs::Cuts::length_cut, crate::specs::Cuts::cut_shaped))]
     fn count(&self) -> usize {
-        sectors_in(row_length(self.bytes))
+        is_row(self.bytes);
+        (self.bytes.len() / SECTOR).min(MOST)
     }
 
+    #[tactic(auto, using(crate::specs::Cuts::within_cut, crate::specs::Cuts::cut_index))]
     fn read(&self, n: usize, buffer: &mut [u8]) -> Result<(), Refusal> {
-        if buffer.len() != SECTOR {
-            return Err(Refusal::BufferLength);
-        }
-        if n >= self.count() {
-            return Err(Refusal::SectorNumber);
-        }
+        access(buffer.len(), n, self.count())?;
         get_sector(self.bytes, n, buffer);
         Ok(())
     }
 
     // Beyond the store's contract: the row is as it was but for the bytes of sector `n`.
+    #[tactic(auto, using(crate::specs::Cuts::within_cut, crate::specs::Cuts::cut_written, crate::specs::Cuts::put_untouched))]
     fn write(&mut self, n: usize, buffer: &[u8]) -> Result<(), Refusal>
         ensures answer { result ≡ access (length buffer.now) n (length (cut self.old.bytes.now)) }
         ensures after { cut self.new.bytes.now ≡ (if is_ok result then slice_set (cut self.old.bytes.now) n buffer.now else cut self.old.bytes.now) }
         ensures kept { (self.new.bytes.ghost_name ≡ self.old.bytes.ghost_name) × Untouched self.old.bytes.now self.new.bytes.now }
         ensures row { self.new.bytes.now ≡ (if is_ok result then put self.old.bytes.now n buffer.now else self.old.bytes.now) }
     {
-        if buffer.len() != SECTOR {
-            return Err(Refusal::BufferLength);
-        }
-        if n >= self.count() {
-            return Err(Refusal::SectorNumber);
-        }
+        access(buffer.len(), n, self.count())?;
         put_sector(self.bytes, n, buffer);
         Ok(())
     }

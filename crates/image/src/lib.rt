@@ -2,7 +2,6 @@
 //! and the overlay that keeps its writes to itself.
 #![tactic(auto)]
 
-mod bits;
 mod flat;
 mod overlay;
 mod refusal;

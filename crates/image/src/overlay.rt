@@ -5,17 +5,17 @@ ghost use Rattle.image.specs.Layers.{how_many};
 ghost use Rattle.image.specs.Shown.{shown, holds};
 ghost use Rattle.image.specs.Refusals.{access};
 
-use crate::SECTOR;
-use crate::bits::{has_bit, with_bit};
 use crate::refusal::Refusal;
-use crate::rows::{get_sector, put_sector, row_length};
-use crate::store::ImageStore;
+use crate::rows::{get_sector, is_row, put_sector};
+use crate::store::{ImageStore, access};
 
 /// The sectors of the store below, with those written here in place of the old ones.
 #[derive(Drop)]
 pub struct Overlay<S> {
     pub below: S,
+    // One bit for each sector that is held.
     written: u64,
+    // Not `[[u8; 512]; 64]`: it wants a ghost field, with which a pile of overlays on a flat store has no proof.
     cells: [u8; 32768],
 }
 
@@ -28,46 +28,40 @@ impl<S: ImageStore> ImageStore for Overlay<S> {
 
     ghost onward = { λ s t u p q. q ∙ p };
 
+    #[tactic(auto, using(crate::specs::Layers::length_overlaid, crate::specs::Layers::overlaid_shaped))]
     fn count(&self) -> usize {
-        let _cells = row_length(&self.cells);
+        is_row(&self.cells);
         self.below.count()
     }
 
+    #[tactic(auto, using(crate::specs::Layers::length_overlaid, crate::proofs::Bitwise::has_set, crate::proofs::Bitwise::has_unset, crate::proofs::Layering::held_shows, crate::proofs::Layering::below_shows))]
     fn read(&self, n: usize, buffer: &mut [u8]) -> Result<(), Refusal> {
-        if buffer.len() != SECTOR {
-            return Err(Refusal::BufferLength);
+        access(buffer.len(), n, self.count())?;
+        if (self.written >> n) & 1 == 0 {
+            return self.below.read(n, buffer);
         }
-        if n >= self.count() {
-            return Err(Refusal::SectorNumber);
-        }
-        if has_bit(self.written, n) {
-            get_sector(&self.cells, n, buffer);
-            return Ok(());
-        }
-        self.below.read(n, buffer)
+        get_sector(&self.cells, n, buffer);
+        Ok(())
     }
 
     // Beyond the store's contract: which sectors the overlay holds after it.
+    #[tactic(auto, using(crate::specs::Layers::length_overlaid, crate::proofs::Bitwise::has_with, crate::proofs::Layering::overlaid_write))]
     fn write(&mut self, n: usize, buffer: &[u8]) -> Result<(), Refusal>
         ensures answer { result ≡ access (length buffer.now) n (length (shown S.ImageStore.sectors self.old)) }
         ensures after { shown S.ImageStore.sectors self.new ≡ (if is_ok result then slice_set (shown S.ImageStore.sectors self.old) n buffer.now else shown S.ImageStore.sectors self.old) }
         ensures kept { self.new.below ≡ self.old.below }
         ensures holding { (k : ℕ) → holds self.new k ≡ (if is_ok result then (if nat_eq k n then true else holds self.old k) else holds self.old k) }
     {
-        if buffer.len() != SECTOR {
-            return Err(Refusal::BufferLength);
-        }
-        if n >= self.count() {
-            return Err(Refusal::SectorNumber);
-        }
+        access(buffer.len(), n, self.count())?;
         put_sector(&mut self.cells, n, buffer);
-        self.written = with_bit(self.written, n);
+        self.written |= 1 << n;
         Ok(())
     }
 }
 
 impl<S: ImageStore> Overlay<S> {
     /// An overlay on `below` that holds nothing.
+    #[tactic(auto, using(crate::proofs::Layering::overlaid_none, crate::proofs::Bitwise::has_none))]
     pub fn over(below: S) -> Overlay<S>
         ensures below { result.below ≡ below }
         ensures same { shown S.ImageStore.sectors result ≡ S.ImageStore.sectors below }
@@ -84,15 +78,11 @@ impl<S: ImageStore> Overlay<S> {
     pub fn into_below(self) -> S
         ensures { result ≡ self.below }
     {
-        let Overlay {
-            below,
-            written: _,
-            cells: _,
-        } = self;
-        below
+        self.below
     }
 
     /// How many different sectors the overlay holds.
+    #[tactic(auto, using(crate::proofs::Bitwise::ones_how_many))]
     pub fn held(&self) -> u32
         ensures { result ≡ how_many (holds self.now) 64 }
     {
@@ -100,6 +90,7 @@ impl<S: ImageStore> Overlay<S> {
     }
 
     /// Drops every sector that the overlay holds.
+    #[tactic(auto, using(crate::proofs::Layering::overlaid_none, crate::proofs::Bitwise::has_none))]
     pub fn forget(&mut self)
         ensures below { self.new.below ≡ self.old.below }
         ensures same { shown S.ImageStore.sectors self.new ≡ S.ImageStore.sectors self.old.below }

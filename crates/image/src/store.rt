@@ -23,8 +23,10 @@ pub trait ImageStore {
     fn count(&self) -> usize
         ensures number { result ≡ length (sectors self.now) }
         ensures few { result ≤ 64 }
+        // No law: of a value in a law it is not known that its bytes are below 256 (docs/DECISIONS.md).
         ensures shaped { Shaped (sectors self.now) };
 
+    // A buffer of another length is refused, so buffers are slices here.
     /// Fills `buffer` with sector `n`. Where it declines, `buffer` is as it was.
     fn read(&self, n: usize, buffer: &mut [u8]) -> Result<(), Refusal>
         ensures answer { result ≡ access (length buffer.old) n (length (sectors self.now)) }
@@ -37,7 +39,21 @@ pub trait ImageStore {
         ensures kept { keeps self.old self.new };
 }
 
+/// Whether a call for sector `n` of `count` with a buffer of `size` bytes is accepted.
+pub(crate) fn access(size: usize, n: usize, count: usize) -> Result<(), Refusal>
+    ensures { result ≡ access size n count }
+{
+    if size != SECTOR {
+        return Err(Refusal::BufferLength);
+    }
+    if n >= count {
+        return Err(Refusal::SectorNumber);
+    }
+    Ok(())
+}
+
 /// Sector `n`; where there is none, zeros.
+#[tactic(auto, using(crate::proofs::Fetching::fetched, crate::specs::Fetched::sector_is), unfolding(crate::specs::Fetched::blank))]
 pub fn fetch<S: ImageStore>(store: &S, n: usize) -> [u8; SECTOR]
     ensures sector { result ≡ sector_of (S.sectors store.now) n }
     ensures inside { n < length (S.sectors store.now) → result ≡ slice_index_or (S.sectors store.now) n [] }

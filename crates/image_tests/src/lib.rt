@@ -6,141 +6,67 @@ mod tables {
     use image::{Flat, ImageStore, Overlay, Refusal};
     use std::test::Fail;
 
-    #[derive(Clone, Copy)]
-    struct Size {
-        bytes: usize,
-        sectors: usize,
-    }
+    // What a store of 64 sectors answers to a buffer of so many bytes and a sector's number.
+    const ACCESSES: [(usize, usize, Result<(), Refusal>); 9] = [
+        (512, 0, Ok(())),
+        (512, 63, Ok(())),
+        (512, 64, Err(Refusal::SectorNumber)),
+        (512, usize::MAX, Err(Refusal::SectorNumber)),
+        (511, 63, Err(Refusal::BufferLength)),
+        (513, 63, Err(Refusal::BufferLength)),
+        (511, 64, Err(Refusal::BufferLength)),
+        (513, 64, Err(Refusal::BufferLength)),
+        (0, 0, Err(Refusal::BufferLength)),
+    ];
 
-    #[derive(Clone, Copy)]
-    struct Access {
-        buffer: usize,
-        sector: usize,
-        answer: Result<(), Refusal>,
-    }
-
-    // What a store of 64 sectors answers to a buffer and a sector.
-    const ACCESSES: [Access; 9] = [
-        Access {
-            buffer: 512,
-            sector: 0,
-            answer: Ok(()),
-        },
-        Access {
-            buffer: 512,
-            sector: 63,
-            answer: Ok(()),
-        },
-        Access {
-            buffer: 512,
-            sector: 64,
-            answer: Err(Refusal::SectorNumber),
-        },
-        Access {
-            buffer: 512,
-            sector: usize::MAX,
-            answer: Err(Refusal::SectorNumber),
-        },
-        Access {
-            buffer: 511,
-            sector: 63,
-            answer: Err(Refusal::BufferLength),
-        },
-        Access {
-            buffer: 513,
-            sector: 63,
-            answer: Err(Refusal::BufferLength),
-        },
-        Access {
-            buffer: 511,
-            sector: 64,
-            answer: Err(Refusal::BufferLength),
-        },
-        Access {
-            buffer: 513,
-            sector: 64,
-            answer: Err(Refusal::BufferLength),
-        },
-        Access {
-            buffer: 0,
-            sector: 0,
-            answer: Err(Refusal::BufferLength),
-        },
+    // How many sectors so many bytes have.
+    const SIZES: [(usize, usize); 9] = [
+        (0, 0),
+        (511, 0),
+        (512, 1),
+        (513, 1),
+        (1023, 1),
+        (32767, 63),
+        (32768, 64),
+        (33280, 64),
+        (33380, 64),
     ];
 
     #[test]
     fn counts(rt: HostRuntime) -> Result<(), Fail> {
-        let sizes = [
-            Size {
-                bytes: 0,
-                sectors: 0,
-            },
-            Size {
-                bytes: 511,
-                sectors: 0,
-            },
-            Size {
-                bytes: 512,
-                sectors: 1,
-            },
-            Size {
-                bytes: 513,
-                sectors: 1,
-            },
-            Size {
-                bytes: 1023,
-                sectors: 1,
-            },
-            Size {
-                bytes: 32767,
-                sectors: 63,
-            },
-            Size {
-                bytes: 32768,
-                sectors: 64,
-            },
-            Size {
-                bytes: 33280,
-                sectors: 64,
-            },
-            Size {
-                bytes: 33380,
-                sectors: 64,
-            },
-        ];
-        for size in sizes.iter() {
-            let mut row = vec![in rt.alloc(); 7u8; size.bytes]?;
+        for (bytes, sectors) in SIZES {
+            let mut row = vec![in rt.alloc(); 7u8; bytes]?;
             let flat = Flat::new(row.as_mut_slice());
-            assert_eq!(rt; flat.count(), size.sectors);
+            assert_eq!(rt; flat.count(), sectors);
             let over = Overlay::over(flat);
-            assert_eq!(rt; over.count(), size.sectors);
+            assert_eq!(rt; over.count(), sectors);
         }
         Ok(())
     }
 
     #[test]
     fn flat_answers(rt: HostRuntime) -> Result<(), Fail> {
-        for access in ACCESSES.iter() {
+        for (size, sector, answer) in ACCESSES {
             let mut row = vec![in rt.alloc(); 1u8; 32868]?;
-            let mut buffer = vec![in rt.alloc(); 2u8; access.buffer]?;
+            let mut buffer = vec![in rt.alloc(); 2u8; size]?;
             let mut flat = Flat::new(row.as_mut_slice());
-            assert!(rt; flat.write(access.sector, buffer.as_slice()) == access.answer);
-            assert!(rt; flat.read(access.sector, buffer.as_mut_slice()) == access.answer);
+            assert_eq!(rt; flat.write(sector, buffer.as_slice()), answer);
+            assert_eq!(rt; flat.read(sector, buffer.as_mut_slice()), answer);
             let changed = count_of(row.as_slice(), 2);
-            assert_eq!(rt; changed, if access.answer.is_ok() { 512 } else { 0 });
+            assert_eq!(rt; changed, if answer.is_ok() { 512 } else { 0 });
         }
         Ok(())
     }
 
     #[test]
     fn overlay_answers(rt: HostRuntime) -> Result<(), Fail> {
-        for access in ACCESSES.iter() {
+        for (size, sector, answer) in ACCESSES {
             let mut row = vec![in rt.alloc(); 1u8; 32868]?;
-            let mut buffer = vec![in rt.alloc(); 2u8; access.buffer]?;
+            let mut buffer = vec![in rt.alloc(); 2u8; size]?;
             let mut over = Overlay::over(Flat::new(row.as_mut_slice()));
-            assert!(rt; over.write(access.sector, buffer.as_slice()) == access.answer);
-            assert!(rt; over.read(access.sector, buffer.as_mut_slice()) == access.answer);
-            assert_eq!(rt; over.held(), if access.answer.is_ok() { 1 } else { 0 });
+            assert_eq!(rt; over.write(sector, buffer.as_slice()), answer);
+            assert_eq!(rt; over.read(sector, buffer.as_mut_slice()), answer);
+            assert_eq!(rt; over.held(), if answer.is_ok() { 1 } else { 0 });
             drop(over);
             assert_eq!(rt; count_of(row.as_slice(), 2), 0);
         }
@@ -149,22 +75,14 @@ mod tables {
 
     // How often a byte stands in a row.
     fn count_of(row: &[u8], byte: u8) -> usize {
-        let mut n = 0usize;
-        for b in row {
-            if *b == byte {
-                n = n.saturating_add(1);
-            }
-        }
-        n
+        row.iter().filter(|b| **b == byte).count()
     }
 
     // What the first byte of a sector is.
     fn first_of<S: ImageStore>(store: &S, n: usize) -> Option<u8> {
         let mut buffer = [0u8; 512];
-        match store.read(n, &mut buffer) {
-            Ok(()) => Some(buffer[0]),
-            Err(_) => None,
-        }
+        store.read(n, &mut buffer).ok()?;
+        Some(buffer[0])
     }
 
     #[test]
@@ -194,14 +112,14 @@ mod tables {
         let mut flat = Flat::new(&mut row);
         assert!(rt; flat.write(0, &[2u8; 512]).is_ok());
         assert!(rt; flat.write(1, &[2u8; 512]).is_ok());
-        assert!(rt; flat.write(2, &[2u8; 512]) == Err(Refusal::SectorNumber));
+        assert_eq!(rt; flat.write(2, &[2u8; 512]), Err(Refusal::SectorNumber));
         assert_eq!(rt; count_of(&row, 2), 1024);
         assert_eq!(rt; count_of(&row[1024..1124], 1), 100);
     }
 
     #[test]
     fn numbers_of_refusals(rt: HostRuntime) {
-        assert!(rt; Refusal::BufferLength.code() == (1, 0));
-        assert!(rt; Refusal::SectorNumber.code() == (2, 0));
+        assert_eq!(rt; Refusal::BufferLength.code(), (1, 0));
+        assert_eq!(rt; Refusal::SectorNumber.code(), (2, 0));
     }
 }
