@@ -2,16 +2,19 @@
 ghost use Rattle.std.specs.Prelude.{◌≡◌};
 ghost use Rattle.candidates.specs.Refusals.{code_of};
 
-use std::fmt;
+use thiserror::Error;
 
 /// Why the candidates or the states of a point are declined.
-#[derive(Clone, Copy, PartialEq, Eq, Debug)]
+#[derive(Clone, Copy, PartialEq, Eq, Debug, Error)]
 pub enum Refusal {
     /// The sector's number is not below the image's count.
+    #[error("the sector lies outside the image")]
     SectorNumber,
     /// A sector or a node has more than 8 candidates, equal ones counted.
+    #[error("a sector or a node has more than 8 candidates at point {point}")]
     Candidates { point: usize },
     /// There are more than 1,048,576 states.
+    #[error("point {point} has more than 1048576 states")]
     States { point: usize },
 }
 
@@ -24,19 +27,6 @@ impl Refusal {
             Refusal::SectorNumber => (2, 0),
             Refusal::Candidates { point } => (13, *point as u64),
             Refusal::States { point } => (14, *point as u64),
-        }
-    }
-}
-
-impl fmt::Display for Refusal {
-    fn fmt<W: fmt::Write>(&self, f: &mut fmt::Formatter<W>) -> fmt::Result {
-        match self {
-            Refusal::SectorNumber => write!(f, "the sector lies outside the image"),
-            Refusal::Candidates { point } => write!(
-                f,
-                "a sector or a node has more than 8 candidates at point {point}"
-            ),
-            Refusal::States { point } => { write!(f, "point {point} has more than 1048576 states") }
         }
     }
 }

@@ -1,5 +1,6 @@
 -- The values of a history, and what its calls answer.
-use Rattle.std.specs.Prelude.{ℕ, ◌-◌, cond, List, length, take, drop, Ok, Err, Result, ◌==◌}
+use Rattle.std.specs.Prelude.{◌≡◌, ℕ, ◌-◌, cond, List, length, take, drop, Ok, Err, Result, ◌==◌}
+use Rattle.std.specs.Borrow.{MutBor}
 use Rattle.history.specs.declared.refusal.Refusal.{Refusal}
 use Rattle.history.specs.declared.refusal.Refusal.TheVariants.{Cells, Full}
 use Rattle.history.specs.declared.cells.History.{History}
@@ -19,3 +20,7 @@ put_answer cells values = cond (cells == 8) (cond (values == 8) (Err Full) (Ok t
 -- what `settle` answers
 abbrev pub settle_answer : (cells : ℕ) → Result (Unit {0}) Refusal
 settle_answer cells = cond (cells == 8) (Ok tt) (Err Cells)
+
+-- the same cells are lent, as many as before
+abbrev pub SameCells : {T : Type 0} → MutBor (List T) → MutBor (List T) → Type 0
+SameCells before after = (length after.now ≡ length before.now) × (after.ghost_name ≡ before.ghost_name)

@@ -2,14 +2,16 @@
 ghost use Rattle.std.specs.Prelude.{◌≡◌};
 ghost use Rattle.history.specs.Refusals.{code_of};
 
-use std::fmt;
+use thiserror::Error;
 
 /// Why a history declines to change.
-#[derive(Clone, Copy, PartialEq, Eq, Debug)]
+#[derive(Clone, Copy, PartialEq, Eq, Debug, Error)]
 pub enum Refusal {
     /// The cells are not 8.
+    #[error("the history has not 8 cells")]
     Cells,
     /// The history holds 8 values already.
+    #[error("the history holds 8 values already")]
     Full,
 }
 
@@ -21,15 +23,6 @@ impl Refusal {
         match self {
             Refusal::Cells => (1, 0),
             Refusal::Full => (13, 0),
-        }
-    }
-}
-
-impl fmt::Display for Refusal {
-    fn fmt<W: fmt::Write>(&self, f: &mut fmt::Formatter<W>) -> fmt::Result {
-        match self {
-            Refusal::Cells => write!(f, "the history has not 8 cells"),
-            Refusal::Full => write!(f, "the history holds 8 values already"),
         }
     }
 }

@@ -1,6 +1,6 @@
 //! The values of a history: how it starts, and how it changes.
 ghost use Rattle.std.specs.Prelude.{◌≡◌, false, [], ◌∷◌, ◌++◌, length, is_ok, if◌then◌else◌, nat_eq};
-ghost use Rattle.history.specs.Held.{held, last, put_answer, settle_answer};
+ghost use Rattle.history.specs.Held.{held, last, SameCells, put_answer, settle_answer};
 
 use crate::CELLS;
 use crate::cells::History;
@@ -10,8 +10,7 @@ impl<'a, T: Copy> History<'a, T> {
     /// A history of one value; on cells that are not 8 it is empty.
     pub fn start(cells: &'a mut [T], value: T) -> History<'a, T>
         ensures values { held result ≡ (if nat_eq (length cells.old) 8 then value ∷ [] else []) }
-        ensures cells { length result.cells.now ≡ length cells.old }
-        ensures lent { result.cells.ghost_name ≡ cells.entry.ghost_name }
+        ensures lent { SameCells cells.entry result.cells }
     {
         if cells.len() != CELLS {
             return History { cells, used: 0 };
@@ -20,17 +19,25 @@ impl<'a, T: Copy> History<'a, T> {
         History { cells, used: 1 }
     }
 
+    /// Declines where the cells are not 8.
+    fn ask_cells(&self) -> Result<(), Refusal>
+        ensures { result ≡ settle_answer (length self.now.cells.now) }
+    {
+        if self.cells.len() == CELLS {
+            Ok(())
+        } else {
+            Err(Refusal::Cells)
+        }
+    }
+
     /// Adds a value at the end.
     pub fn put(&mut self, value: T) -> Result<(), Refusal>
         ensures answer { result ≡ put_answer (length self.old.cells.now) (length (held self.old)) }
         ensures values { held self.new ≡ (if is_ok result then held self.old ++ value ∷ [] else held self.old) }
         ensures same { is_ok result ≡ false → self.new ≡ self.old }
-        ensures cells { length self.new.cells.now ≡ length self.old.cells.now }
-        ensures lent { self.new.cells.ghost_name ≡ self.old.cells.ghost_name }
+        ensures lent { SameCells self.old.cells self.new.cells }
     {
-        if self.cells.len() != CELLS {
-            return Err(Refusal::Cells);
-        }
+        self.ask_cells()?;
         if self.used == CELLS {
             return Err(Refusal::Full);
         }
@@ -44,12 +51,9 @@ impl<'a, T: Copy> History<'a, T> {
         ensures answer { result ≡ settle_answer (length self.old.cells.now) }
         ensures values { held self.new ≡ (if is_ok result then last (held self.old) else held self.old) }
         ensures same { is_ok result ≡ false → self.new ≡ self.old }
-        ensures cells { length self.new.cells.now ≡ length self.old.cells.now }
-        ensures lent { self.new.cells.ghost_name ≡ self.old.cells.ghost_name }
+        ensures lent { SameCells self.old.cells self.new.cells }
     {
-        if self.cells.len() != CELLS {
-            return Err(Refusal::Cells);
-        }
+        self.ask_cells()?;
         self.cells[0] = self.cells[self.used - 1];
         self.used = 1;
         Ok(())
@@ -59,6 +63,6 @@ impl<'a, T: Copy> History<'a, T> {
     pub fn values(&self) -> &[T]
         ensures { result.now ≡ held self.now }
     {
-        &self.cells[0..self.used]
+        &self.cells[..self.used]
     }
 }

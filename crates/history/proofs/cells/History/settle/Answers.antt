@@ -1,7 +1,0 @@
-use Rattle.std.proofs.Common.{rules}
-use Rattle.std.proofs.lemmas.List.{length-set}
-use Rattle.history.proofs.Lists.{first_set, last_alone}
-use Rattle.history.proofs.cells.History.settle.Goals as goal
-
-pub returns : goal.returns
-returns g c = search (rules, first_set, last_alone, length-set)
