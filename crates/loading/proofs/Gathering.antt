@@ -1,28 +1,19 @@
 -- Entry after entry into a trace.
-use Rattle.std.proofs.Common.{◌≡◌, ℕ, ◌≤◌, Bool, true, false, ◌⊎◌, List, [], ◌∷◌, ◌++◌, map, drop, Some, None, Ok, Err, vec_items, Result, sym, refl, ap, ◌∙◌, subst, inl, inr, append_assoc, append-nil, arith}
+use Rattle.std.proofs.Common.{◌≡◌, ℕ, ◌≤◌, List, [], ◌∷◌, ◌++◌, map, drop, Some, None, Ok, Err, vec_items, Result, sym, refl, ap, ◌∙◌, append_assoc, arith}
 use Rattle.std.proofs.lemmas.List.{map_push}
 use Rattle.mark.specs.declared.mark.Mark.{Mark}
+use Rattle.recording.specs.declared.entry.Entry.{Entry}
 use Rattle.recording.specs.declared.entry.Reader.{Reader}
-use Rattle.recording.specs.declared.refusal.Refusal as R
 use Rattle.recording.specs.Items.{Item}
 use Rattle.recording.specs.Heads.{count_in}
-use Rattle.recording.specs.Reading.{open_fault, ahead, next_number, Opening}
+use Rattle.recording.specs.Reading.{open_fault, ahead, next_number, item_seen, Opening}
 use Rattle.crash.specs.Effects.{effect_of}
 use Rattle.trace.specs.declared.steps.Step.{Step}
 use Rattle.trace.specs.declared.steps.Trace.{Trace}
 use Rattle.trace.specs.Meaning.{step_effect, effects_of, marks_of}
 use Rattle.meaning.specs.Meanings.{mark_in}
 use Rattle.meaning.specs.Loads.{entries_from, onwards}
-use Rattle.loading.specs.declared.refusal.Refusal.{Refusal}
-use Rattle.loading.specs.declared.refusal.Refusal.TheVariants.{Recording, NoMark, Outside, TooMuchData, Memory}
-use Rattle.loading.specs.Loading.{code_of, Means, Extends, remaining, entries_of, fault_of, of_entries, of_head, IsOfMemory, Loaded, OneRead}
-
--- A TRACE WITH ONE ENTRY MORE.
-means_more : (t u : Trace) (items : List Item) (e : Item) → Means t items → Extends t u e → Means u (items ++ e ∷ [])
-means_more t u items e m x = record {
-  effects = x.effects ∙ ap (λ q. q ++ effect_of e ∷ []) m.effects ∙ sym (map_push effect_of items e);
-  marks = x.marks ∙ ap (λ q. q ++ mark_in e ∷ []) m.marks ∙ sym (map_push mark_in items e);
-}
+use Rattle.loading.specs.Loading.{Means, remaining, entries_of, NextRead}
 
 -- a step pushed adds its effect and its mark
 pub pushed : (t u : Trace) (step : Step) → vec_items u.steps ≡ vec_items t.steps ++ step ∷ [] →
@@ -32,9 +23,6 @@ pushed t u step e = (
   ap (map step_effect) e ∙ map_push step_effect (vec_items t.steps) step,
   ap (map (λ s. s.mark)) e ∙ map_push (λ s. s.mark) (vec_items t.steps) step,
 )
-
-pub extended : (t u : Trace) (e : Item) (m : Mark) → m ≡ mark_in e → effects_of u ≡ effects_of t ++ effect_of e ∷ [] → marks_of u ≡ marks_of t ++ m ∷ [] → Extends t u e
-extended t u e m h a b = record { effects = a; marks = b ∙ ap (λ q. marks_of t ++ q ∷ []) h }
 
 means_none : (t : Trace) → vec_items t.steps ≡ [] → Means t []
 unfolding effects_of marks_of
@@ -52,10 +40,6 @@ glue_none (Err r) = refl
 pub glue_more : (items : List Item) (e : Item) (o : Result (List Item) (ℕ × ℕ)) → glue items (onwards e o) ≡ glue (items ++ e ∷ []) o
 glue_more items e (Ok es) = ap Ok (sym (append_assoc items (e ∷ []) es))
 glue_more items e (Err r) = refl
-
-glue_fault : (items : List Item) (o : Result (List Item) (ℕ × ℕ)) → of_entries (glue items o) ≡ of_entries o
-glue_fault items (Ok es) = refl
-glue_fault items (Err r) = refl
 
 pub record Midway (s : List ℕ) (count : ℕ) (r : Reader) (n : ℕ) (t : Trace) (items : List Item) : Type 0 where
   pub opened : open_fault s ≡ None
@@ -77,47 +61,17 @@ started s count r t o es =
       few = omega arith;
     }
 
-went : (s : List ℕ) (count : ℕ) (r q : Reader) (n m : ℕ) (t u : Trace) (items : List Item) (e : Item) → Midway s count r n t items → remaining r n count ≡ onwards e (remaining q m count) → Extends t u e → m ≤ 96 → Midway s count q m u (items ++ e ∷ [])
-went s count r q n m t u items e w step x f = record {
-  opened = w.opened;
-  means = means_more t u items e w.means x;
-  same = sym (glue_more items e (remaining q m count)) ∙ ap (glue items) (sym step) ∙ w.same;
-  few = f;
-}
-
--- the same by what the reading of an entry answers: one entry more, or the end
-pub went_on : (s : List ℕ) (count : ℕ) (r q : Reader) (n m : ℕ) (t u : Trace) (more : Bool) (i : (items : List Item) × Midway s count r n t items) → more ≡ true → OneRead count r q n m t u (Ok more) → (items : List Item) × Midway s count q m u items
-went_on s count r q n m t u more i e o =
-    let P : Bool → Type 0 = λ b. OneRead count r q n m t u (Ok b) in
-    let h = subst P e o in
-    (i.0 ++ h.0 ∷ [], went s count r q n m t u i.0 h.0 i.1 h.1 h.2 h.4)
-
-ended : (s : List ℕ) (count : ℕ) (r : Reader) (n : ℕ) (t : Trace) (items : List Item) → Midway s count r n t items → remaining r n count ≡ Ok [] → Loaded s count (Ok t)
-ended s count r n t items m e = (items, m.opened, sym m.same ∙ ap (glue items) e ∙ ap Ok (append-nil items), m.means)
-
-pub ended_by : (s : List ℕ) (count : ℕ) (r q : Reader) (n m : ℕ) (t u : Trace) (more : Bool) (i : (items : List Item) × Midway s count r n t items) → more ≡ false → OneRead count r q n m t u (Ok more) → Loaded s count (Ok u)
-ended_by s count r q n m t u more i e o =
-    let P : Bool → Type 0 = λ b. OneRead count r q n m t u (Ok b) in
-    let h = subst P e o in
-    let Q : Trace → Type 0 = λ x. Loaded s count (Ok x) in
-    subst Q (sym h.1) (ended s count r n t i.0 i.1 h.0)
-
-by_code : (s : List ℕ) (count : ℕ) (f : Refusal) → IsOfMemory f ⊎ (fault_of s count ≡ code_of f) → Loaded s count (Err f)
-by_code s count (Recording f) (inl z) = absurd z
-by_code s count (Recording f) (inr e) = e
-by_code s count (NoMark k) (inl z) = absurd z
-by_code s count (NoMark k) (inr e) = e
-by_code s count (Outside k) (inl z) = absurd z
-by_code s count (Outside k) (inr e) = e
-by_code s count (TooMuchData k) (inl z) = absurd z
-by_code s count (TooMuchData k) (inr e) = e
-by_code s count Memory z = tt
-
-pub declined : (s : List ℕ) (count : ℕ) (r : Reader) (n : ℕ) (t : Trace) (items : List Item) (f : Refusal) → Midway s count r n t items → IsOfMemory f ⊎ (of_entries (remaining r n count) ≡ code_of f) → Loaded s count (Err f)
-declined s count r n t items f m (inl z) = by_code s count f (inl z)
-declined s count r n t items f m (inr e) = by_code s count f (inr (
-    ap (λ o. of_head o (of_entries (entries_of s count))) m.opened
-    ∙ ap of_entries (sym m.same) ∙ glue_fault items (remaining r n count) ∙ e))
-
-pub unopened : (s : List ℕ) (count : ℕ) (f : R.Refusal) → open_fault s ≡ Some f → Loaded s count (Err (Recording f))
-unopened s count f e = ap (λ o. of_head o (of_entries (entries_of s count))) e
+-- one entry more
+pub went : (s : List ℕ) (count : ℕ) (r q : Reader) (n m : ℕ) (t u : Trace) (items : List Item) (e : Entry) (mark : Mark) → Midway s count r n t items → NextRead count r q n m (Ok (Some (e, mark))) →
+    effects_of u ≡ effects_of t ++ effect_of (item_seen e) ∷ [] → marks_of u ≡ marks_of t ++ mark ∷ [] → Midway s count q m u (items ++ item_seen e ∷ [])
+went s count r q n m t u items e mark w o es ms =
+    let i = item_seen e in
+    record {
+      opened = w.opened;
+      means = record {
+        effects = es ∙ ap (λ q. q ++ effect_of i ∷ []) w.means.effects ∙ sym (map_push effect_of items i);
+        marks = ms ∙ ap (λ q. q ++ mark ∷ []) w.means.marks ∙ ap (λ q. map mark_in items ++ q ∷ []) o.1 ∙ sym (map_push mark_in items i);
+      };
+      same = sym (glue_more items i (remaining q m count)) ∙ ap (glue items) (sym o.0) ∙ w.same;
+      few = o.3;
+    }

@@ -1,13 +1,15 @@
 -- What the reading of a recording into memory answers.
-use Rattle.std.specs.Prelude.{◌≡◌, ℕ, ◌+◌, ◌/◌, ◌≤◌, Bool, true, false, ◌⊎◌, List, [], ◌∷◌, ◌++◌, map, length, drop, Some, None, Ok, Err, Option, Result}
+use Rattle.std.specs.Prelude.{◌≡◌, ℕ, ◌+◌, ◌/◌, ◌≤◌, List, [], map, length, drop, Some, None, Ok, Err, Option, Result}
 use Rattle.std.specs.List.{range_with_len}
 use Rattle.image.specs.Sectors.{Sector, sector_at}
+use Rattle.mark.specs.declared.mark.Mark.{Mark}
 use Rattle.recording.specs.declared.refusal.Refusal as R
 use Rattle.recording.specs.Refusals as RC
+use Rattle.recording.specs.declared.entry.Entry.{Entry}
 use Rattle.recording.specs.declared.entry.Reader.{Reader}
 use Rattle.recording.specs.Items.{Item}
 use Rattle.recording.specs.Heads.{count_in}
-use Rattle.recording.specs.Reading.{open_fault, ahead, next_number}
+use Rattle.recording.specs.Reading.{open_fault, ahead, next_number, item_seen}
 use Rattle.crash.specs.Effects.{effect_of}
 use Rattle.trace.specs.declared.steps.Trace.{Trace}
 use Rattle.trace.specs.Meaning.{effects_of, marks_of}
@@ -58,27 +60,14 @@ Loaded bytes count (Err (Outside entry)) = fault_of bytes count ≡ Some (9, ent
 Loaded bytes count (Err (TooMuchData entry)) = fault_of bytes count ≡ Some (11, entry)
 Loaded bytes count (Err Memory) = Unit {0}
 
--- the refusal is want of memory
-abbrev pub IsOfMemory : Refusal → Type 0
-IsOfMemory (Recording f) = ⊥
-IsOfMemory (NoMark entry) = ⊥
-IsOfMemory (Outside entry) = ⊥
-IsOfMemory (TooMuchData entry) = ⊥
-IsOfMemory Memory = Unit {0}
-
 -- what is left before a reader, of which `used` data sectors are used
 abbrev pub remaining : Reader → (used count : ℕ) → Result (List Item) (ℕ × ℕ)
 remaining r used count = entries_from r.left (next_number r) used count (ahead r)
 
--- a trace u is the trace t with one entry more
-pub record Extends (t u : Trace) (e : Item) : Type 0 where
-  pub effects : effects_of u ≡ effects_of t ++ effect_of e ∷ []
-  pub marks : marks_of u ≡ marks_of t ++ mark_in e ∷ []
-
--- One entry read from the reader r into the trace t, when n data sectors are used; then they are s, u and m: an entry,
--- or the end, or why not.
-abbrev pub OneRead : (count : ℕ) → (r s : Reader) → (n m : ℕ) → (t u : Trace) → Result Bool Refusal → Type 0
-OneRead count r s n m t u (Ok true) =
-    (e : Item) × (remaining r n count ≡ onwards e (remaining s m count)) × Extends t u e × (s.left + 1 ≡ r.left) × (m ≤ 96)
-OneRead count r s n m t u (Ok false) = (remaining r n count ≡ Ok []) × (u ≡ t)
-OneRead count r s n m t u (Err f) = IsOfMemory f ⊎ (of_entries (remaining r n count) ≡ code_of f)
+-- The next entry is read from the reader r, which is then s, when n data sectors are used, which are then m: an entry with
+-- its mark, or the end, or why not.
+abbrev pub NextRead : (count : ℕ) → (r s : Reader) → (n m : ℕ) → Result (Option (Entry × Mark)) Refusal → Type 0
+NextRead count r s n m (Ok (Some p)) =
+    (remaining r n count ≡ onwards (item_seen p.0) (remaining s m count)) × (p.1 ≡ mark_in (item_seen p.0)) × (s.left + 1 ≡ r.left) × (m ≤ 96)
+NextRead count r s n m (Ok None) = remaining r n count ≡ Ok []
+NextRead count r s n m (Err f) = of_entries (remaining r n count) ≡ code_of f

@@ -1,53 +1,35 @@
 //! The recording, entry by entry.
 ghost use Rattle.std.specs.Prelude.{◌≡◌, ℕ, ◌≤◌, length};
-ghost use Rattle.loading.specs.Loading.{OneRead, Loaded};
+ghost use Rattle.loading.specs.Loading.{NextRead, Loaded};
 
 use crate::asking::ask;
 use crate::push::push_entry;
 use crate::refusal::Refusal;
 use image::ImageStore;
-use recording::Reader;
+use mark::Mark;
+use recording::{Entry, Reader};
 use std::alloc::Global;
 use trace::Trace;
 
-/// Reads one entry into a trace, or answers false at the end; `used` counts the data sectors read.
-fn read_entry(
-    heap: Global,
-    reader: &mut Reader,
-    trace: &mut Trace,
+/// The next entry with its mark, or nothing at the end; `used` counts the data sectors so far.
+fn next_entry<'a>(
+    reader: &mut Reader<'a>,
     used: &mut usize,
     count: usize,
-) -> Result<bool, Refusal>
-    requires few { used.old ≤ 96 }
-    requires small { count ≤ 64 }
-    ensures { OneRead count reader.old reader.new used.old used.new trace.old trace.new result }
+) -> Result<Option<(Entry<'a>, Mark)>, Refusal>
+    requires { used.old ≤ 96 }
+    ensures { NextRead count reader.old reader.new used.old used.new result }
 {
-    let found = match reader.header() {
-        Ok(found) => found,
-        Err(refusal) => return Err(Refusal::Recording(refusal)),
-    };
-    let Some(header) = found else {
-        return Ok(false);
+    let Some(header) = reader.header()? else {
+        return Ok(None);
     };
     let number = reader.total() - reader.left() + 1;
-    let mark = match ask(&header, number, *used, count) {
-        Ok(mark) => mark,
-        Err(refusal) => return Err(refusal),
+    let mark = ask(&header, number, *used, count)?;
+    let Some(entry) = reader.next()? else {
+        return Ok(None);
     };
-    let taken = match reader.next() {
-        Ok(taken) => taken,
-        Err(refusal) => return Err(Refusal::Recording(refusal)),
-    };
-    let Some(entry) = taken else {
-        return Ok(false);
-    };
-    match push_entry(heap, trace, &entry, mark) {
-        Ok(()) => {
-            *used += header.data_sectors() as usize;
-            Ok(true)
-        }
-        Err(_) => Err(Refusal::Memory),
-    }
+    *used += header.data_sectors() as usize;
+    Ok(Some((entry, mark)))
 }
 
 /// The entries of a recording in memory, for an image with as many sectors as `base` has; or the
@@ -55,20 +37,12 @@ fn read_entry(
 pub fn read_trace<S: ImageStore>(heap: Global, bytes: &[u8], base: &S) -> Result<Trace, Refusal>
     ensures { Loaded bytes.now (length (S.ImageStore.sectors base.now)) result }
 {
-    let mut reader = match Reader::open(bytes) {
-        Ok(reader) => reader,
-        Err(refusal) => return Err(Refusal::Recording(refusal)),
-    };
+    let mut reader = Reader::open(bytes)?;
     let mut trace = Trace::new(heap);
     let mut used = 0;
     let count = base.count();
-    loop {
-        let more = match read_entry(heap, &mut reader, &mut trace, &mut used, count) {
-            Ok(more) => more,
-            Err(refusal) => return Err(refusal),
-        };
-        if !more {
-            return Ok(trace);
-        }
+    while let Some((entry, mark)) = next_entry(&mut reader, &mut used, count)? {
+        push_entry(heap, &mut trace, &entry, mark)?;
     }
+    Ok(trace)
 }

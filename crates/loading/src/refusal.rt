@@ -1,8 +1,9 @@
 //! Why a recording is not read into memory.
 ghost use Rattle.std.specs.Prelude.{◌≡◌};
 ghost use Rattle.loading.specs.Loading.{code_of};
+ghost use Rattle.loading.specs.declared.refusal.Refusal.TheVariants.{Recording, Memory};
 
-use std::alloc::{AllocError, AllocFailed};
+use std::alloc::AllocError;
 use std::fmt;
 
 /// Why a recording is not read into memory; an entry is named by its number, from 1.
@@ -25,13 +26,29 @@ impl Refusal {
     pub fn code(&self) -> Option<(u64, u64)>
         ensures { result ≡ code_of self.now }
     {
-        match self {
+        match *self {
             Refusal::Recording(refusal) => Some(refusal.code()),
-            Refusal::NoMark { entry } => Some((10, *entry)),
-            Refusal::Outside { entry } => Some((9, *entry)),
-            Refusal::TooMuchData { entry } => Some((11, *entry)),
+            Refusal::NoMark { entry } => Some((10, entry)),
+            Refusal::Outside { entry } => Some((9, entry)),
+            Refusal::TooMuchData { entry } => Some((11, entry)),
             Refusal::Memory => None,
         }
+    }
+}
+
+impl From<recording::Refusal> for Refusal {
+    ghost from_gives = { λ f r. r ≡ Recording f };
+
+    fn from(refusal: recording::Refusal) -> Refusal {
+        Refusal::Recording(refusal)
+    }
+}
+
+impl From<AllocError> for Refusal {
+    ghost from_gives = { λ _ r. r ≡ Memory };
+
+    fn from(_: AllocError) -> Refusal {
+        Refusal::Memory
     }
 }
 

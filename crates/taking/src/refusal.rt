@@ -1,6 +1,7 @@
 //! Why a recording is not taken.
 ghost use Rattle.std.specs.Prelude.{◌≡◌};
 ghost use Rattle.taking.specs.Taking.{code_of};
+ghost use Rattle.taking.specs.declared.refusal.Refusal.TheVariants.{Reading, Points};
 
 use std::fmt;
 
@@ -22,6 +23,22 @@ impl Refusal {
             Refusal::Reading(refusal) => refusal.code(),
             Refusal::Points(refusal) => Some(refusal.code()),
         }
+    }
+}
+
+impl From<loading::Refusal> for Refusal {
+    ghost from_gives = { λ f r. r ≡ Reading f };
+
+    fn from(refusal: loading::Refusal) -> Refusal {
+        Refusal::Reading(refusal)
+    }
+}
+
+impl From<candidates::Refusal> for Refusal {
+    ghost from_gives = { λ f r. r ≡ Points f };
+
+    fn from(refusal: candidates::Refusal) -> Refusal {
+        Refusal::Points(refusal)
     }
 }
 

@@ -13,12 +13,7 @@ use trace::Trace;
 pub fn take_recording<S: ImageStore>(heap: Global, bytes: &[u8], base: &S) -> Result<Trace, Refusal>
     ensures { Taken bytes.now (S.ImageStore.sectors base.now) result }
 {
-    let trace = match read_trace(heap, bytes, base) {
-        Ok(trace) => trace,
-        Err(refusal) => return Err(Refusal::Reading(refusal)),
-    };
-    match check_points(&trace, base) {
-        Ok(()) => Ok(trace),
-        Err(refusal) => Err(Refusal::Points(refusal)),
-    }
+    let trace = read_trace(heap, bytes, base)?;
+    check_points(&trace, base)?;
+    Ok(trace)
 }

@@ -1,30 +1,23 @@
 -- From entry to entry the trace means what was read.
-use Rattle.std.proofs.Common.{ℕ, [], Ok, Err, sym, subst}
-use Rattle.loading.specs.Loading.{Loaded}
-use Rattle.loading.proofs.Gathering.{started, went_on, ended_by, declined, unopened}
+use Rattle.std.proofs.Common.{[], ◌∷◌, ◌++◌, Ok, Option, subst}
+use Rattle.mark.specs.declared.mark.Mark.{Mark}
+use Rattle.recording.specs.declared.entry.Entry.{Entry}
+use Rattle.recording.specs.Reading.{item_seen}
+use Rattle.loading.specs.Loading.{NextRead}
+use Rattle.loading.proofs.Gathering.{started, went}
 use Rattle.loading.proofs.reading.read_trace.Goals as goal
 
-pub returns-in-Err : goal.returns-in-Err
-returns-in-Err g c = unopened c.args.bytes.now _ c.in-Err.refusal c.in-Err.ensures
+pub loop-trace-init : goal.loop-trace-init
+loop-trace-init g c = ([], started c.args.bytes.now _ c.in_ok-reader.reader c.new-trace.result c.in_ok-reader.ensures c.new-trace.ensures)
 
-pub loop-more-init : goal.loop-more-init
-loop-more-init g c = ([], started c.args.bytes.now _ c.in-Ok.reader c.new-trace.result c.in-Ok.ensures c.new-trace.ensures)
-
-pub loop-more-preserved : goal.loop-more-preserved
-loop-more-preserved g c =
-    went_on c.args.bytes.now _ c.loop-more.reader c.read_entry.new.reader c.loop-more.used c.read_entry.new.used c.loop-more.trace c.read_entry.new.trace c.in-Ok-read_entry.more
-    c.loop-more.invariant c.if-not-more.false c.in-Ok-read_entry.ensures
-
-pub returns-then-not-more : goal.returns-then-not-more
-returns-then-not-more g c =
-    let l : Loaded c.args.bytes.now c.count-count.result (Ok c.read_entry.new.trace) =
-    ended_by c.args.bytes.now _ c.loop-more.reader c.read_entry.new.reader c.loop-more.used c.read_entry.new.used c.loop-more.trace c.read_entry.new.trace c.in-Ok-read_entry.more
-    c.loop-more.invariant c.if-not-more.true c.in-Ok-read_entry.ensures in
-    rw (sym c.count-count.ensures.number) l
-
-pub returns-in-Err-read_entry : goal.returns-in-Err-read_entry
-returns-in-Err-read_entry g c =
-    let s = c.args.bytes.now in
-    let i = c.loop-more.invariant in
-    let P : ℕ → Type 0 = λ k. Loaded s k (Err c.in-Err-read_entry.refusal) in
-    subst P c.count-count.ensures.number (declined s _ c.loop-more.reader c.loop-more.used c.loop-more.trace i.0 c.in-Err-read_entry.refusal i.1 c.in-Err-read_entry.ensures)
+pub loop-trace-preserved : goal.loop-trace-preserved
+loop-trace-preserved g c =
+    let i = c.loop-trace.invariant in
+    let r = c.loop-trace.reader in
+    let q = c.next_entry.new.reader in
+    let n = c.loop-trace.used in
+    let m = c.next_entry.new.used in
+    let count = c.count-count.result in
+    let P : Option (Entry × Mark) → Type 0 = λ o. NextRead count r q n m (Ok o) in
+    let o = subst P c.in-Some.is c.in_ok-entry.ensures in
+    (i.0 ++ item_seen c.in-Some.entry ∷ [], went c.args.bytes.now count r q n m c.loop-trace.trace c.push_entry.new.trace i.0 c.in-Some.entry c.in-Some.mark i.1 o c.in_ok-push_entry.ensures.effects c.in_ok-push_entry.ensures.marks)
