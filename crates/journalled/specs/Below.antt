@@ -1,4 +1,4 @@
--- Tests and sums over the numbers below a number.
+-- A test of the numbers below a number.
 use Rattle.std.specs.Prelude.{◌≡◌, ℕ, zero, suc, ◌+◌, ◌<◌, Bool, true, false, ◌&&◌, refl}
 use Rattle.std.proofs.Common.{sym, ap, ◌∙◌, inl, inr, add-one, arith}
 use Rattle.std.proofs.lemmas.Bool.{cases_eq, and_from, and_left, and_right, and_parts}
@@ -7,11 +7,6 @@ use Rattle.std.proofs.lemmas.Bool.{cases_eq, and_from, and_left, and_right, and_
 unfoldable pub every : (ℕ → Bool) → ℕ → Bool
 every test zero = true
 every test (suc n) = every test n && test n
-
--- the sum of f over the numbers below n
-unfoldable pub total : (ℕ → ℕ) → ℕ → ℕ
-total f zero = 0
-total f (suc n) = total f n + f n
 
 pub every_none : (test : ℕ → Bool) → every test 0 ≡ true
 unfolding every
@@ -36,14 +31,6 @@ every_at test (suc n) i h l = elim (cases_eq i n) [
   | inl e ↦ ap test e ∙ (and_parts (every test n) (test n) h).1
   | inr ne ↦ every_at test n i (and_parts (every test n) (test n) h).0 (omega arith)
 ]
-
-pub total_none : (f : ℕ → ℕ) → total f 0 ≡ 0
-unfolding total
-total_none f = refl
-
-pub total_more : (f : ℕ → ℕ) (n : ℕ) → total f (n + 1) ≡ total f n + f n
-unfolding total
-total_more f n = ap (total f) (add-one n)
 
 pub every_all : (test : ℕ → Bool) (n : ℕ) → ((i : ℕ) → i < n → test i ≡ true) → every test n ≡ true
 unfolding every

@@ -1,6 +1,7 @@
 -- The journalled layout: sector 2 describes a transaction of k sectors, whose new contents
 -- are sectors 3 to 2 + k, and sector 3 + k commits it.
-use Rattle.std.specs.Prelude.{ℕ, zero, suc, ◌+◌, ◌*◌, ◌/◌, ◌%◌, ◌^◌, Bool, cond, not, ◌&&◌, ◌||◌, length, Ok, Err, Result, ◌==◌, nat_le, nat_lt, slice_set}
+use Rattle.std.specs.Prelude.{ℕ, zero, suc, ◌+◌, ◌*◌, ◌/◌, ◌%◌, ◌^◌, Bool, cond, not, ◌&&◌, ◌||◌, length, Ok, Err, Result, List, map, ◌==◌, nat_le, nat_lt, slice_set}
+use Rattle.std.specs.List.{range_with_len, fold, sum_by}
 use Rattle.filesystem.specs.declared.fault.Fault.{Fault}
 use Rattle.filesystem.specs.declared.fault.Fault.TheVariants.{Sequence}
 use Rattle.image.specs.Sectors.{Image, Sector}
@@ -9,7 +10,7 @@ use Rattle.filesystem.specs.Words.{word_at, kind, rest, is_word}
 use Rattle.filesystem.specs.Heads.{head_word, head_of, unless}
 use Rattle.filesystem.specs.Trees.{tree_of}
 use Rattle.image.specs.Fetched.{sector_of}
-use Rattle.journalled.specs.Below.{every, total}
+use Rattle.journalled.specs.Below.{every}
 
 -- the image's sequence number
 abbrev pub sequence_of : Image → ℕ
@@ -42,12 +43,23 @@ homes_stand count d k = every (λ i. home_stands count d i && apart d i) k
 unfoldable pub describes : (s count : ℕ) → (descriptor : Sector) → Bool
 describes s count d = is_word 1 s (word_at d 0) && (kind (word_at d 1) == 2 && (nat_le 1 (size_in d) && (nat_le (size_in d) 6 && homes_stand count d (size_in d))))
 
+-- the homes that it names
+abbrev pub homes_in : (descriptor : Sector) → List ℕ
+homes_in d = map (home_in d) (range_with_len 0 (size_in d))
+
 -- THE COMMIT. The sum of all words of a sector, and of sectors 2 to 2 + k.
 abbrev pub word_sum : Sector → ℕ
-word_sum sector = total (word_at sector) 128
+word_sum sector = sum_by (word_at sector) (range_with_len 0 128)
 
 abbrev pub journal_sum : Image → (k : ℕ) → ℕ
-journal_sum image k = total (λ j. word_sum (sector_of image (2 + j))) (k + 1)
+journal_sum image k = sum_by (λ n. word_sum (sector_of image n)) (range_with_len 2 (k + 1))
+
+-- a sum with a word more, modulo 2^30; and f's numbers added up so, one after another
+unfoldable pub added : (sum word : ℕ) → ℕ
+added sum w = (sum + w) % 2 ^ 30
+
+abbrev pub added_up : (f : ℕ → ℕ) → List ℕ → ℕ
+added_up f ns = fold added 0 (map f ns)
 
 -- word 0 of sector 3 + k is of kind 1 with the sequence number s; word 1 of kind 3 with the sum
 unfoldable pub commits : (s : ℕ) → Image → (k : ℕ) → Bool

@@ -1,73 +1,54 @@
 //! The sector that describes a transaction.
-ghost use Rattle.std.specs.Prelude.{◌≡◌, ◌+◌, ◌<◌, ◌≤◌};
-ghost use Rattle.journalled.specs.Journal.{size_in, home_in, home_stands, apart, homes_stand, describes};
+ghost use Rattle.std.specs.Prelude.{◌≡◌, ◌≤◌, map, ◌==◌, ◌&&◌, ◌||◌, true, false, cond, Some, None, nat_le, nat_lt, MatchOption};
+ghost use Rattle.std.specs.List.{range_with_len};
+ghost use Rattle.filesystem.specs.Words.{kind, rest};
+ghost use Rattle.journalled.specs.Journal.{home_in, homes_stand, describes, homes_in};
 
+use arrayvec::ArrayVec;
 use filesystem::{is_word, kind_of, rest_of, word_at};
+use image::SECTOR;
 
 /// The most sectors of a transaction.
 const MOST: usize = 6;
 
-/// How many sectors it names.
-pub fn size_in(sector: &[u8]) -> usize
-    ensures { result ≡ size_in sector.now }
+/// Where the sectors of a transaction belong, in their order.
+pub type Homes = ArrayVec<usize, MOST>;
+
+/// The home that a word names, if it is sector 1 or a data sector.
+fn home_in(count: usize, word: u32) -> Option<usize>
+    ensures { result ≡ cond (kind word == 3 && (rest word == 1 || (nat_le 10 (rest word) && nat_lt (rest word) count))) (Some (rest word)) None }
 {
-    rest_of(word_at(sector, 1)) as usize
+    let home = rest_of(word) as usize;
+    (kind_of(word) == 3 && (home == 1 || (10..count).contains(&home))).then_some(home)
 }
 
-/// The home of sector `i`.
-pub fn home_in(sector: &[u8], i: usize) -> usize
-    requires { i < 6 }
-    ensures { result ≡ home_in sector.now i }
-{
-    rest_of(word_at(sector, 2 + i as u8)) as usize
-}
-
-/// Whether home `i` is sector 1 or a data sector.
-fn home_stands(count: usize, sector: &[u8], i: usize) -> bool
-    requires { i < 6 }
-    ensures { result ≡ home_stands count sector.now i }
-{
-    let home = home_in(sector, i);
-    kind_of(word_at(sector, 2 + i as u8)) == 3 && (home == 1 || (10 <= home && home < count))
-}
-
-/// Whether home `i` is none of those before it.
-fn is_apart(sector: &[u8], i: usize) -> bool
-    requires { i < 6 }
-    ensures { result ≡ apart sector.now i }
-{
-    for j in 0..i {
-        if home_in(sector, j) == home_in(sector, i) {
-            return false;
-        }
-    }
-    true
-}
-
-/// Whether the first `size` homes stand, and differ.
-fn homes_stand(count: usize, sector: &[u8], size: usize) -> bool
+/// The homes of so many sectors, if all of them stand and differ.
+fn read_homes(count: usize, sector: &[u8; SECTOR], size: usize) -> Option<Homes>
     requires { size ≤ 6 }
-    ensures { result ≡ homes_stand count sector.now size }
+    ensures { MatchOption result (homes_stand count sector.now size ≡ false) (λ homes. (homes_stand count sector.now size ≡ true) × (homes.items ≡ map (home_in sector.now) (range_with_len 0 size))) }
 {
+    let mut homes = Homes::new();
     for i in 0..size {
-        if !home_stands(count, sector, i) {
-            return false;
+        let home = home_in(count, word_at(sector, 2 + i as u8))?;
+        if homes.contains(&home) {
+            return None;
         }
-        if !is_apart(sector, i) {
-            return false;
-        }
+        homes.push(home);
     }
-    true
+    Some(homes)
 }
 
-/// Whether the sector describes a transaction of the sequence number.
-pub fn is_described(sequence: u32, count: usize, sector: &[u8]) -> bool
-    ensures { result ≡ describes sequence count sector.now }
+/// The homes that the sector names, if it describes a transaction of the sequence number.
+#[tactic(auto, unfolding(crate::specs::Journal::describes))]
+pub fn described(sequence: u32, count: usize, sector: &[u8; SECTOR]) -> Option<Homes>
+    ensures { MatchOption result (describes sequence count sector.now ≡ false) (λ homes. (describes sequence count sector.now ≡ true) × (homes.items ≡ homes_in sector.now)) }
 {
-    let size = size_in(sector);
-    is_word(word_at(sector, 0), 1, sequence)
-        && kind_of(word_at(sector, 1)) == 2
-        && 1 <= size
-        && size <= MOST
-        && homes_stand(count, sector, size)
+    let size = rest_of(word_at(sector, 1)) as usize;
+    if !is_word(word_at(sector, 0), 1, sequence)
+        || kind_of(word_at(sector, 1)) != 2
+        || !(1..=MOST).contains(&size)
+    {
+        return None;
+    }
+    read_homes(count, sector, size)
 }

@@ -16,7 +16,7 @@ pub fn laws()
 {}
 
 /// Worked examples of the layout.
-#[tactic(auto, unfolding(tree::specs::Rules::allowed, image::specs::Fetched::blank, filesystem::specs::Least::first_failing, filesystem::specs::Words::word_at, filesystem::specs::Trees::node_at, filesystem::specs::Trees::nodes_of, filesystem::specs::Trees::node_stands, filesystem::specs::Trees::tree_of, crate::specs::Below::every, crate::specs::Below::total, crate::specs::Journal::describes, crate::specs::Journal::commits, crate::specs::Journal::copied, crate::specs::Journal::put_word, crate::specs::Journal::recovered))]
+#[tactic(auto, unfolding(tree::specs::Rules::allowed, image::specs::Fetched::blank, filesystem::specs::Least::first_failing, filesystem::specs::Words::word_at, filesystem::specs::Trees::node_at, filesystem::specs::Trees::nodes_of, filesystem::specs::Trees::node_stands, filesystem::specs::Trees::tree_of, crate::specs::Below::every, crate::specs::Journal::describes, crate::specs::Journal::commits, crate::specs::Journal::copied, crate::specs::Journal::put_word, crate::specs::Journal::recovered))]
 pub fn examples()
     ensures carries { Carries }
     ensures moves { MovesOn }

@@ -1,8 +1,8 @@
 //! Whether a transaction stands.
-ghost use Rattle.std.specs.Prelude.{◌≡◌, ◌≤◌, if◌then◌else◌, Some, None};
-ghost use Rattle.journalled.specs.Journal.{sequence_of, size_of, commits, stands};
+ghost use Rattle.std.specs.Prelude.{◌≡◌, ◌≤◌, true, false, MatchOption};
+ghost use Rattle.journalled.specs.Journal.{sequence_of, descriptor, homes_in, commits, stands};
 
-use crate::descriptor::{is_described, size_in};
+use crate::descriptor::{Homes, described};
 use crate::sums::journal_sum;
 use filesystem::{is_word, rest_of, word_at};
 use image::{ImageStore, fetch};
@@ -15,6 +15,7 @@ fn sequence_of<S: ImageStore>(image: &S) -> u32
 }
 
 /// Whether sector 3 + `size` commits a transaction of the sequence number.
+#[tactic(auto, unfolding(crate::specs::Journal::commits))]
 fn is_committed<S: ImageStore>(sequence: u32, image: &S, size: usize) -> bool
     requires { size ≤ 6 }
     ensures { result ≡ commits sequence (S.sectors image.now) size }
@@ -24,19 +25,11 @@ fn is_committed<S: ImageStore>(sequence: u32, image: &S, size: usize) -> bool
         && is_word(word_at(&sector, 1), 3, journal_sum(image, size))
 }
 
-/// The size of the transaction that stands, if one does.
-pub fn standing<S: ImageStore>(image: &S) -> Option<usize>
-    ensures { result ≡ (if stands (S.sectors image.now) then Some (size_of (S.sectors image.now)) else None) }
+/// The homes of the transaction that stands, if one does.
+pub fn standing<S: ImageStore>(image: &S) -> Option<Homes>
+    ensures { MatchOption result (stands (S.sectors image.now) ≡ false) (λ homes. (stands (S.sectors image.now) ≡ true) × (homes.items ≡ homes_in (descriptor (S.sectors image.now)))) }
 {
     let sequence = sequence_of(image);
-    let sector = fetch(image, 2);
-    if !is_described(sequence, image.count(), &sector) {
-        return None;
-    }
-    let size = size_in(&sector);
-    if is_committed(sequence, image, size) {
-        Some(size)
-    } else {
-        None
-    }
+    let homes = described(sequence, image.count(), &fetch(image, 2))?;
+    is_committed(sequence, image, homes.len()).then_some(homes)
 }

@@ -4,6 +4,7 @@ use Rattle.journalled.specs.Journal.{copied}
 use Rattle.journalled.proofs.replay.copy_homes.Given as goal
 
 abbrev pub invariant-loop-i : goal.invariant-loop-i
-invariant-loop-i g l =
-    (g.S.ImageStore.sectors l.image ≡ copied (g.S.ImageStore.sectors l.initial.image) l.i)
-    × g.S.ImageStore.keeps l.initial.image l.image
+invariant-loop-i g l = record {
+  so_far : g.S.ImageStore.sectors l.image ≡ copied (g.S.ImageStore.sectors l.initial.image) l.i;
+  kept : g.S.ImageStore.keeps l.initial.image l.image;
+}
