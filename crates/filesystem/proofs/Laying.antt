@@ -1,7 +1,7 @@
 -- The nodes laid so far, and what they say of the whole tree.
-use Rattle.std.proofs.Common.{◌≡◌, ℕ, ◌+◌, ◌<◌, Bool, true, false, cond, ◌&&◌, List, length, get_or, set, sym, ap, ◌∙◌, arith, below_more}
+use Rattle.std.proofs.Common.{◌≡◌, ℕ, ◌+◌, ◌<◌, Bool, true, false, cond, ◌&&◌, List, [], ◌∷◌, ◌++◌, length, get_or, sym, ap, ◌∙◌, arith, below_more}
 use Rattle.std.proofs.lemmas.List.FromFn.{get_or-map-range_with_len, fill_by_all}
-use Rattle.std.proofs.lemmas.List.{get_or-set_same, get_or-set_other}
+use Rattle.std.proofs.lemmas.List.{get_or_append_left, get_or_push}
 use Rattle.std.proofs.lemmas.Bool.{lt-ltb}
 use Rattle.tree.specs.declared.node.Node.{Node}
 use Rattle.tree.specs.declared.node.Node.TheVariants.{Absent}
@@ -44,9 +44,9 @@ module _ (lowest : ℕ) (im : Image) where
           (allowed_agree nodes (nodes_of im) k (λ j l. same j l ∙ sym (nodes_at im j (omega arith))) (node_at im k)))
 
       -- one node more
-      pub more : length nodes ≡ 16 → (w laid : ℕ) → laid ≡ k → w ≡ node_word im k
-          → (j : ℕ) → j < k + 1 → get_or (set nodes laid (node_of im w)) j Absent ≡ node_at im j
+      pub more : (w : ℕ) → length nodes ≡ k → w ≡ node_word im k
+          → (j : ℕ) → j < k + 1 → get_or (nodes ++ node_of im w ∷ []) j Absent ≡ node_at im j
       unfolding node_at
-      more len w laid el ew = below_more _ k
-          (λ j l. get_or-set_other nodes laid j (node_of im w) Absent (λ e. omega arith) ∙ same j l)
-          (ap (λ x. get_or (set nodes x (node_of im w)) k Absent) el ∙ get_or-set_same nodes k (node_of im w) Absent (omega arith) ∙ ap (node_of im) ew)
+      more w el ew = below_more _ k
+          (λ j l. get_or_append_left nodes (node_of im w ∷ []) Absent j (omega arith) ∙ same j l)
+          (get_or_push nodes (node_of im w) Absent k el ∙ ap (node_of im) ew)

@@ -1,5 +1,5 @@
 //! The tree that an image's node words mean.
-ghost use Rattle.std.specs.Prelude.{◌≡◌, ℕ, ◌+◌, false, ◌&&◌, length, take, is_ok, if◌then◌else◌, slice_set};
+ghost use Rattle.std.specs.Prelude.{◌≡◌, ℕ, false, ◌&&◌, [], ◌∷◌, ◌++◌, length, take, is_ok, if◌then◌else◌};
 ghost use Rattle.tree.specs.Prints.{print_of};
 ghost use Rattle.tree.specs.Rules.{allowed};
 ghost use Rattle.image.specs.Fetched.{sector_of};
@@ -50,9 +50,8 @@ fn lay_word<S: ImageStore>(
     word: u32,
     builder: &mut Builder,
 ) -> Result<(), Misplaced>
-    ensures answer { is_ok result ≡ (word_stands lowest (length (S.sectors image.now)) builder.old.laid word && allowed builder.old.nodes builder.old.laid (node_of (S.sectors image.now) word)) }
-    ensures nodes { builder.new.nodes ≡ (if is_ok result then slice_set builder.old.nodes builder.old.laid (node_of (S.sectors image.now) word) else builder.old.nodes) }
-    ensures laid { builder.new.laid ≡ (if is_ok result then builder.old.laid + 1 else builder.old.laid) }
+    ensures answer { is_ok result ≡ (word_stands lowest (length (S.sectors image.now)) (length builder.old.nodes.items) word && allowed builder.old.nodes.items (length builder.old.nodes.items) (node_of (S.sectors image.now) word)) }
+    ensures nodes { builder.new.nodes.items ≡ (if is_ok result then builder.old.nodes.items ++ node_of (S.sectors image.now) word ∷ [] else builder.old.nodes.items) }
 {
     let said = NodeWord::read(word).ok_or(Misplaced)?;
     if !said.stands(lowest, image.count(), builder.laid()) {

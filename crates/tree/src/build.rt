@@ -1,5 +1,5 @@
 //! Building trees, and reading their nodes.
-ghost use Rattle.std.specs.Prelude.{◌≡◌, ℕ, ◌+◌, ◌<◌, ◌≤◌, true, ◌≢◌, length, is_ok, if◌then◌else◌, Some, MatchOption, slice_index_or, slice_set};
+ghost use Rattle.std.specs.Prelude.{◌≡◌, ℕ, ◌<◌, true, ◌≢◌, [], ◌∷◌, ◌++◌, length, is_ok, if◌then◌else◌, Some, MatchOption, slice_index_or};
 ghost use Rattle.tree.specs.Rules.{is_directory, parent_of, below, placed, allowed, bare};
 ghost use Rattle.tree.specs.declared.node.Node.TheVariants.{Absent};
 
@@ -8,32 +8,22 @@ use crate::builder::Builder;
 use crate::node::{Misplaced, Node};
 use crate::nodes::Tree;
 
-/// Whether the node is a directory.
-fn is_directory(node: Node) -> bool
-    ensures { result ≡ is_directory node }
+/// Whether node `k` is a directory.
+fn is_directory(nodes: &[Node], k: u8) -> bool
+    ensures { result ≡ is_directory (slice_index_or nodes.now k Absent) }
 {
-    matches!(node, Node::Directory { .. })
+    matches!(nodes.get(usize::from(k)), Some(Node::Directory { .. }))
 }
 
-/// Whether node `k` may lie below `parent`.
-fn lies_below(nodes: &[Node], k: usize, parent: u8) -> bool
-    requires { k ≤ length nodes.now }
-    ensures { result ≡ below nodes.now k parent }
-{
-    let parent = usize::from(parent);
-    parent < k && is_directory(nodes[parent])
-}
-
-/// Whether `node` may stand as node `k`, which is one of the 16.
-fn is_placed(nodes: &[Node], k: usize, node: Node) -> bool
-    requires { k ≤ length nodes.now }
-    ensures { result ≡ placed nodes.now k node }
+/// Whether `node` may stand after `nodes`.
+fn is_placed(nodes: &[Node], node: Node) -> bool
+    ensures { result ≡ placed nodes.now (length nodes.now) node }
 {
     match node {
-        Node::Absent => k > 0,
-        Node::Directory { parent } if k == 0 => parent == 0,
-        Node::Directory { parent } => lies_below(nodes, k, parent),
-        Node::File { parent, length, .. } => lies_below(nodes, k, parent) && length <= 512,
+        Node::Absent => !nodes.is_empty(),
+        Node::Directory { parent } if nodes.is_empty() => parent == 0,
+        Node::Directory { parent } => is_directory(nodes, parent),
+        Node::File { parent, length, .. } => is_directory(nodes, parent) && length <= 512,
     }
 }
 
@@ -41,26 +31,21 @@ impl Builder {
     /// Lays the next node, unless it breaks a rule or all 16 are laid; then nothing changes.
     #[tactic(auto, unfolding(crate::specs::Rules::allowed))]
     pub fn lay(&mut self, node: Node) -> Result<(), Misplaced>
-        ensures answer { is_ok result ≡ allowed self.old.nodes self.old.laid node }
-        ensures nodes { self.new.nodes ≡ (if is_ok result then slice_set self.old.nodes self.old.laid node else self.old.nodes) }
-        ensures laid { self.new.laid ≡ (if is_ok result then self.old.laid + 1 else self.old.laid) }
+        ensures answer { is_ok result ≡ allowed self.old.nodes.items (length self.old.nodes.items) node }
+        ensures nodes { self.new.nodes.items ≡ (if is_ok result then self.old.nodes.items ++ node ∷ [] else self.old.nodes.items) }
     {
-        if self.laid >= NODES || !is_placed(&self.nodes, self.laid, node) {
+        if self.nodes.is_full() || !is_placed(self.nodes.as_slice(), node) {
             return Err(Misplaced);
         }
-        self.nodes[self.laid] = node;
-        self.laid += 1;
+        self.nodes.push(node);
         Ok(())
     }
 
     /// The tree, once all 16 nodes are laid.
-    pub fn finish(self) -> Option<Tree>
-        ensures { MatchOption result (self.laid ≢ 16) (λ t. (self.laid ≡ 16) × (t.nodes ≡ self.nodes)) }
+    pub fn finish(&self) -> Option<Tree>
+        ensures { MatchOption result (length self.now.nodes.items ≢ 16) (λ t. (length self.now.nodes.items ≡ 16) × (t.nodes ≡ self.now.nodes.items)) }
     {
-        let Builder { nodes, laid } = self;
-        if laid < NODES {
-            return None;
-        }
+        let nodes = <[Node; NODES]>::try_from(self.nodes.as_slice()).ok()?;
         Some(Tree { nodes })
     }
 }

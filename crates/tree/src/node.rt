@@ -1,8 +1,9 @@
 //! The nodes of a tree.
 
 /// What stands under a node's number.
-#[derive(Clone, Copy, PartialEq, Eq, Debug)]
+#[derive(Clone, Copy, PartialEq, Eq, Debug, Default)]
 pub enum Node {
+    #[default]
     Absent,
     Directory { parent: u8 },
     File { parent: u8, length: u16, print: u32 },

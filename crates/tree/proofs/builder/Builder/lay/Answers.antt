@@ -1,10 +1,12 @@
 -- One allowed node more keeps the rules.
-use Rattle.std.proofs.Common.{rules}
-use Rattle.tree.proofs.Laid.{one_more}
+use Rattle.std.proofs.Common.{◌≡◌, true, length, rules}
 use Rattle.tree.specs.Rules.{allowed}
+use Rattle.tree.proofs.Laid.{one_more}
 use Rattle.tree.proofs.builder.Builder.lay.Goals as goal
 
-pub invariant_of-self-2-clause-sound : goal.invariant_of-self-2-clause-sound
+pub invariant_of-self : goal.invariant_of-self
 unfolding allowed
-invariant_of-self-2-clause-sound c =
-    let b = c.args.self.now in one_more b.nodes b.laid c.args.node (search rules) (search rules) b.sound
+invariant_of-self c =
+    let nodes = c.args.self.now.nodes.items in
+    let ok : allowed nodes (length nodes) c.args.node ≡ true = search rules in
+    record { sound = rw c.push.ensures.items (one_more nodes c.args.node ok c.args.self.now.sound) }
