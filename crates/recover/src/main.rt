@@ -4,7 +4,7 @@
 
 mod show;
 
-use console::{Failed, arguments, finish, read_file, write_beside};
+use console::{Failed, Program, Usage};
 use filesystem::FileSystem;
 use image::{Flat, Overlay};
 use journalled::Journalled;
@@ -32,71 +32,46 @@ IMAGE is never written.
 Status 0 for a tree and for a fault, which standard error says in words; else 1
 with the reason on standard error.";
 
-/// Recovers the image in `held`, which stays as it is; the image afterwards goes to `image`.
-fn recover_with<F: FileSystem>(
-    rt: &HostRuntime,
-    system: &F,
-    held: &mut [u8],
-    image: &mut [u8],
-) -> Result<(), Failed> {
-    let mut tree = Tree::bare();
-    let mut over = Overlay::over(Flat::new(held));
-    let mut flat = Flat::new(image);
-    let answer = recover_apart(system, &mut over, &mut flat, &mut tree);
-    show_outcome(rt, answer, &tree)
-}
+const USAGE: Usage = Usage {
+    name: "recover",
+    version: Some("recover 0.1.0"),
+    help: HELP,
+    wanted: "a file system and two files are wanted, FILESYSTEM IMAGE OUT",
+};
 
 /// Reads the image, recovers it, and writes the other file.
 fn recover_files<F: FileSystem>(
-    rt: &HostRuntime,
+    program: &Program,
     system: &F,
     path: &str,
     out: &str,
 ) -> Result<(), Failed> {
-    let mut held = read_file(rt, "recover", "image", path)?;
-    let mut image = held.clone()?;
-    recover_with(rt, system, held.as_mut_slice(), image.as_mut_slice())?;
-    write_beside(rt, "recover", path, held.as_slice(), out, image.as_slice())
+    let mut input = program.read("image", path)?;
+    let mut image = input.bytes.clone()?;
+    let mut tree = Tree::bare();
+    let answer = recover_apart(
+        system,
+        &mut Overlay::over(Flat::new(input.bytes.as_mut_slice())),
+        &mut Flat::new(image.as_mut_slice()),
+        &mut tree,
+    );
+    show_outcome(program, answer, &tree)?;
+    program.write_beside(&input, out, image.as_slice())
 }
 
-/// Recovers by the file system that `name` names.
-fn recover_named(rt: &HostRuntime, name: &str, path: &str, out: &str) -> Result<(), Failed> {
-    match name {
-        "j" => recover_files(rt, &Journalled, path, out),
-        "p" => recover_files(rt, &Plain, path, out),
-        _ => {
-            eprintln!(rt;
-                "recover: no file system is called {name}; j is the journalled one, p the plain one"
-            )?;
-            Err(Failed::Said)
-        }
+/// Recovers by the file system that the first word names.
+fn recover(program: Program, words: [String; 3]) -> Result<(), Failed> {
+    let [name, path, out] = &words;
+    match name.as_str() {
+        "j" => recover_files(&program, &Journalled, path.as_str(), out.as_str()),
+        "p" => recover_files(&program, &Plain, path.as_str(), out.as_str()),
+        name => Err(program.refused(format_args!(
+            "no file system is called {name}; j is the journalled one, p the plain one"
+        ))),
     }
-}
-
-/// Follows the arguments.
-fn run(rt: &HostRuntime) -> Result<(), Failed> {
-    let words = arguments(rt)?;
-    if words.len() == 1 && words[0].as_str() == "--help" {
-        rt.println(HELP)?;
-        return Ok(());
-    }
-    if words.len() == 1 && words[0].as_str() == "--version" {
-        rt.println("recover 0.1.0")?;
-        return Ok(());
-    }
-    if words.len() != 3 {
-        eprintln!(rt;
-            "recover: a file system and two files are wanted, FILESYSTEM IMAGE OUT; recover --help says more"
-        )?;
-        return Err(Failed::Said);
-    }
-    recover_named(rt, words[0].as_str(), words[1].as_str(), words[2].as_str())
 }
 
 // An `Err` from main would be printed, and its reason stands on standard error already.
 fn main(rt: HostRuntime) -> ExitCode {
-    match finish(&rt, "recover", run(&rt)) {
-        Ok(()) => ExitCode::SUCCESS,
-        Err(_) => ExitCode::FAILURE,
-    }
+    USAGE.run(&rt, recover)
 }

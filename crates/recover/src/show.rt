@@ -1,15 +1,16 @@
 //! An outcome in words.
-use console::Failed;
+use console::{Failed, Program};
 use filesystem::Fault;
 use recovery::outcome_lines;
 use tree::Tree;
 
 /// Prints the lines of an outcome, and on standard error what a fault means.
 pub fn show_outcome(
-    rt: &HostRuntime,
+    program: &Program,
     answer: Result<(), Fault>,
     tree: &Tree,
 ) -> Result<(), Failed> {
+    let rt = program.rt;
     let lines = outcome_lines(rt.alloc(), answer, tree)?;
     rt.print(lines.as_str())?;
     if let Err(fault) = answer {

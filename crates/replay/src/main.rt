@@ -2,10 +2,11 @@
 //! that they leave to another file. The base image is never written.
 #![tactic(auto)]
 
-use console::{Failed, arguments, finish, read_file, write_beside};
+use console::{Failed, Program, Usage};
 use image::{Flat, ImageStore, Overlay};
-use patch::{Declined, changed_sectors, copy_image, replay_recording};
+use patch::{changed_sectors, copy_image, replay_recording};
 use recording::{Entry, Reader};
+use std::fmt;
 use std::process::ExitCode;
 use words::entry_words;
 
@@ -22,8 +23,15 @@ bytes behind them are copied as they are. BASE and RECORDING are never written.
 Status 0 if all entries were applied, else 1 with the reason on standard error
 and no output file written.";
 
+const USAGE: Usage = Usage {
+    name: "replay",
+    version: Some("replay 0.1.0"),
+    help: HELP,
+    wanted: "three files are wanted, RECORDING BASE OUT",
+};
+
 /// How many entries of each kind there were.
-#[derive(Clone, Copy)]
+#[derive(Clone, Copy, Default)]
 struct Tally {
     writes: u64,
     discards: u64,
@@ -31,128 +39,81 @@ struct Tally {
     marks: u64,
 }
 
-/// One entry more.
-fn add_entry(mut all: Tally, entry: &Entry) -> Tally {
-    match entry {
-        Entry::Write {
-            sector: _,
-            flush: _,
-            fua: _,
-            metadata: _,
-            content: _,
-            place: _,
-        } => all.writes = all.writes.saturating_add(1),
-        Entry::Discard {
-            sector: _,
-            sectors: _,
-            flush: _,
-            metadata: _,
-        } => all.discards = all.discards.saturating_add(1),
-        Entry::Flush {
-            sector: _,
-            fua: _,
-            discard: _,
-            metadata: _,
-        } => all.flushes = all.flushes.saturating_add(1),
-        Entry::Mark { text: _, place: _ } => all.marks = all.marks.saturating_add(1),
+impl Tally {
+    /// Counts one entry more.
+    fn count(&mut self, entry: &Entry) {
+        let kind = match entry {
+            Entry::Write { .. } => &mut self.writes,
+            Entry::Discard { .. } => &mut self.discards,
+            Entry::Flush { .. } => &mut self.flushes,
+            Entry::Mark { .. } => &mut self.marks,
+        };
+        *kind = kind.saturating_add(1);
     }
-    all
+}
+
+impl fmt::Display for Tally {
+    fn fmt<W: fmt::Write>(&self, f: &mut fmt::Formatter<W>) -> fmt::Result {
+        let Tally {
+            writes,
+            discards,
+            flushes,
+            marks,
+        } = self;
+        write!(
+            f,
+            "{writes} writes, {discards} discards, {flushes} flushes without data, {marks} marks"
+        )
+    }
 }
 
 /// Prints every entry, and counts them by kind.
 fn show_all(rt: &HostRuntime, bytes: &[u8]) -> Result<Tally, Failed> {
-    let mut all = Tally {
-        writes: 0,
-        discards: 0,
-        flushes: 0,
-        marks: 0,
-    };
+    let mut all = Tally::default();
     let Ok(mut reader) = Reader::open(bytes) else {
         return Err(Failed::Said);
     };
-    for i in 0..reader.total() {
+    for number in 1..=reader.total() {
         let Ok(Some(entry)) = reader.next() else {
             return Err(Failed::Said);
         };
-        let number = i.saturating_add(1);
         let text = entry_words(rt.alloc(), &entry)?;
         println!(rt; "{number}: {text}")?;
-        all = add_entry(all, &entry);
+        all.count(&entry);
     }
     Ok(all)
 }
 
-/// Says why the recording is not replayed.
-fn say_declined(rt: &HostRuntime, declined: Declined) -> Result<(), Failed> {
-    let (number, place) = declined.code();
-    eprintln!(rt; "replay: the recording is declined by {number}, place {place}: {declined}")?;
-    Err(Failed::Said)
-}
-
 /// Replays a recording over a base, and makes `out` the image afterwards.
-fn replay(rt: &HostRuntime, bytes: &[u8], base: &mut [u8], out: &mut [u8]) -> Result<(), Failed> {
+fn replay(program: &Program, bytes: &[u8], base: &mut [u8], out: &mut [u8]) -> Result<(), Failed> {
+    let rt = program.rt;
     let mut over = Overlay::over(Flat::new(base));
-    if let Err(declined) = replay_recording(&mut over, bytes) {
-        return say_declined(rt, declined);
-    }
-    let Tally {
-        writes,
-        discards,
-        flushes,
-        marks,
-    } = show_all(rt, bytes)?;
-    println!(rt;
-        "{writes} writes, {discards} discards, {flushes} flushes without data, {marks} marks"
-    )?;
+    replay_recording(&mut over, bytes).map_err(|why| program.declined(why.code(), why))?;
+    let all = show_all(rt, bytes)?;
+    println!(rt; "{all}")?;
     let changed = changed_sectors(&over.below, &over);
     let count = over.count();
     let held = over.held();
     println!(rt; "{changed} of {count} sectors changed, {held} written")?;
-    let mut flat = Flat::new(out);
-    match copy_image(&over, &mut flat) {
-        Ok(()) => Ok(()),
-        Err(_) => Err(Failed::Said),
-    }
+    copy_image(&over, &mut Flat::new(out)).map_err(|_| Failed::Said)
 }
 
 /// Reads the two files, replays, and writes the third.
-fn replay_files(rt: &HostRuntime, recording: &str, base: &str, out: &str) -> Result<(), Failed> {
-    let bytes = read_file(rt, "replay", "recording", recording)?;
-    let mut held = read_file(rt, "replay", "base image", base)?;
-    let mut image = held.clone()?;
+fn replay_files(program: Program, words: [String; 3]) -> Result<(), Failed> {
+    let [recording, base, out] = &words;
+    let recording = program.read("recording", recording.as_str())?;
+    let mut base = program.read("base image", base.as_str())?;
+    let mut image = base.bytes.clone()?;
     replay(
-        rt,
-        bytes.as_slice(),
-        held.as_mut_slice(),
+        &program,
+        recording.bytes.as_slice(),
+        base.bytes.as_mut_slice(),
         image.as_mut_slice(),
     )?;
-    write_beside(rt, "replay", base, held.as_slice(), out, image.as_slice())
-}
-
-/// Follows the arguments.
-fn run(rt: &HostRuntime) -> Result<(), Failed> {
-    let words = arguments(rt)?;
-    if words.len() == 1 && words[0].as_str() == "--help" {
-        rt.println(HELP)?;
-        return Ok(());
-    }
-    if words.len() == 1 && words[0].as_str() == "--version" {
-        rt.println("replay 0.1.0")?;
-        return Ok(());
-    }
-    if words.len() != 3 {
-        eprintln!(rt;
-            "replay: three files are wanted, RECORDING BASE OUT; replay --help says more"
-        )?;
-        return Err(Failed::Said);
-    }
-    replay_files(rt, words[0].as_str(), words[1].as_str(), words[2].as_str())
+    program.write_beside(&base, out.as_str(), image.as_slice())
 }
 
 // An `Err` from main would be printed, and its reason stands on standard error already.
 fn main(rt: HostRuntime) -> ExitCode {
-    match finish(&rt, "replay", run(&rt)) {
-        Ok(()) => ExitCode::SUCCESS,
-        Err(_) => ExitCode::FAILURE,
-    }
+    USAGE.run(&rt, replay_files)
 }

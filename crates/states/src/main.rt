@@ -4,12 +4,11 @@
 
 mod report;
 
-use console::{Failed, arguments, finish, read_file};
+use console::{Failed, Program, Usage};
 use image::Flat;
-use loading::read_trace;
-use points::check_points;
 use report::report_points;
 use std::process::ExitCode;
+use taking::take_recording;
 use trace::Trace;
 
 const HELP: &str = "states RECORDING BASE
@@ -26,68 +25,33 @@ file is written.
 
 Status 0 if the recording is taken, else 1 with the reason on standard error.";
 
-/// The recording in memory, with the reason said where it is declined.
-fn loaded(rt: &HostRuntime, bytes: &[u8], base: &Flat) -> Result<Trace, Failed> {
-    match read_trace(rt.alloc(), bytes, base) {
-        Ok(trace) => Ok(trace),
-        Err(refusal) => {
-            let Some((number, place)) = refusal.code() else {
-                return Err(Failed::Memory);
-            };
-            eprintln!(rt;
-                "states: the recording is declined by {number}, place {place}: {refusal}"
-            )?;
-            Err(Failed::Said)
-        }
-    }
-}
+const USAGE: Usage = Usage {
+    name: "states",
+    version: Some("states 0.1.0"),
+    help: HELP,
+    wanted: "two files are wanted, RECORDING BASE",
+};
 
-/// Whether every point is within the limits, with the reason said where one is not.
-fn checked(rt: &HostRuntime, trace: &Trace, base: &Flat) -> Result<(), Failed> {
-    match check_points(trace, base) {
-        Ok(()) => Ok(()),
-        Err(refusal) => {
-            let (number, place) = refusal.code();
-            eprintln!(rt;
-                "states: the recording is declined by {number}, place {place}: {refusal}"
-            )?;
-            Err(Failed::Said)
-        }
-    }
+/// The recording in memory, with the reason said where it is declined.
+fn taken(program: &Program, bytes: &[u8], base: &Flat) -> Result<Trace, Failed> {
+    take_recording(program.rt.alloc(), bytes, base).map_err(|why| match why.code() {
+        Some(code) => program.declined(code, why),
+        None => Failed::Memory,
+    })
 }
 
 /// Reads the two files and prints the points.
-fn states_of_files(rt: &HostRuntime, recording: &str, base: &str) -> Result<(), Failed> {
-    let bytes = read_file(rt, "states", "recording", recording)?;
-    let mut held = read_file(rt, "states", "base image", base)?;
-    let flat = Flat::new(held.as_mut_slice());
-    let trace = loaded(rt, bytes.as_slice(), &flat)?;
-    checked(rt, &trace, &flat)?;
-    report_points(rt, &trace, &flat, bytes.as_slice())
-}
-
-/// Follows the arguments.
-fn run(rt: &HostRuntime) -> Result<(), Failed> {
-    let words = arguments(rt)?;
-    if words.len() == 1 && words[0].as_str() == "--help" {
-        rt.println(HELP)?;
-        return Ok(());
-    }
-    if words.len() == 1 && words[0].as_str() == "--version" {
-        rt.println("states 0.1.0")?;
-        return Ok(());
-    }
-    if words.len() != 2 {
-        eprintln!(rt; "states: two files are wanted, RECORDING BASE; states --help says more")?;
-        return Err(Failed::Said);
-    }
-    states_of_files(rt, words[0].as_str(), words[1].as_str())
+fn states(program: Program, words: [String; 2]) -> Result<(), Failed> {
+    let [recording, base] = &words;
+    let recording = program.read("recording", recording.as_str())?;
+    let mut base = program.read("base image", base.as_str())?;
+    let bytes = recording.bytes.as_slice();
+    let flat = Flat::new(base.bytes.as_mut_slice());
+    let trace = taken(&program, bytes, &flat)?;
+    report_points(program.rt, &trace, &flat, bytes)
 }
 
 // An `Err` from main would be printed, and its reason stands on standard error already.
 fn main(rt: HostRuntime) -> ExitCode {
-    match finish(&rt, "states", run(&rt)) {
-        Ok(()) => ExitCode::SUCCESS,
-        Err(_) => ExitCode::FAILURE,
-    }
+    USAGE.run(&rt, states)
 }

@@ -1,0 +1,3 @@
+pub mod Exits
+pub mod Texts
+pub mod Words
