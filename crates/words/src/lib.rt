@@ -1,66 +1,62 @@
 //! Entries of a recording in words, for the programs.
 #![tactic(auto)]
 
+ghost use Rattle.std.specs.Prelude.{◌≡◌, IfOk, map, string_bytes};
+ghost use Rattle.recording.specs.Reading.{item_seen};
+ghost use Rattle.words.specs.Words.{entry_text, flags_text, sectors_text};
+
 use console::printable;
-use recording::Entry;
+use recording::{Entry, Extent};
 use std::alloc::{AllocError, Global};
 
 /// The names of the flags that are set.
-fn flag_words(
-    heap: Global,
-    flush: bool,
-    fua: bool,
-    discard: bool,
-    metadata: bool,
-) -> Result<String, AllocError> {
+fn flag_words(heap: Global, flags: &[(bool, &str)]) -> Result<String, AllocError>
+    ensures { IfOk result (λ s. string_bytes s ≡ flags_text (map (λ flag. (flag.0, flag.1.now)) flags.now)) }
+{
     let mut words = String::new(heap);
-    if flush {
-        words.push_str(", flush")?;
-    }
-    if fua {
-        words.push_str(", FUA")?;
-    }
-    if discard {
-        words.push_str(", discard")?;
-    }
-    if metadata {
-        words.push_str(", metadata")?;
+    for (is_set, name) in flags {
+        if *is_set {
+            write!(words, ", {name}")?;
+        }
     }
     Ok(words)
 }
 
 /// Which sectors are touched.
-fn sector_words(heap: Global, first: u64, sectors: u64) -> Result<String, AllocError> {
-    let last = u128::from(first) + u128::from(sectors.max(1)) - 1;
+fn sector_words(heap: Global, extent: Extent) -> Result<String, AllocError>
+    ensures { IfOk result (λ s. string_bytes s ≡ sectors_text extent.first extent.sectors) }
+{
+    let Extent { first, sectors } = extent;
     if sectors == 1 {
         return format!(in heap; "sector {first}");
     }
+    let last = u128::from(first) + u128::from(sectors.max(1)) - 1;
     format!(in heap; "sectors {first} to {last}")
 }
 
 /// An entry in words: its kind, its sectors and its flags, or the text of a mark.
-pub fn entry_words(heap: Global, entry: &Entry) -> Result<String, AllocError> {
-    match entry {
+pub fn entry_words(heap: Global, entry: &Entry) -> Result<String, AllocError>
+    ensures { IfOk result (λ s. string_bytes s ≡ entry_text (item_seen entry.now)) }
+{
+    match *entry {
         Entry::Write {
-            sector,
             flush,
             fua,
             metadata,
-            content,
-            place: _,
+            ..
         } => {
-            let sectors = sector_words(heap, *sector, (content.len() / 512) as u64)?;
-            let flags = flag_words(heap, *flush, *fua, false, *metadata)?;
+            let sectors = sector_words(heap, entry.extent())?;
+            let flags = [(flush, "flush"), (fua, "FUA"), (metadata, "metadata")];
+            let flags = flag_words(heap, &flags)?;
             format!(in heap; "write {sectors}{flags}")
         }
         Entry::Discard {
-            sector,
-            sectors,
             flush,
             metadata,
+            ..
         } => {
-            let sectors = sector_words(heap, *sector, *sectors)?;
-            let flags = flag_words(heap, *flush, false, false, *metadata)?;
+            let sectors = sector_words(heap, entry.extent())?;
+            let flags = flag_words(heap, &[(flush, "flush"), (metadata, "metadata")])?;
             format!(in heap; "discard {sectors}{flags}")
         }
         Entry::Flush {
@@ -69,11 +65,11 @@ pub fn entry_words(heap: Global, entry: &Entry) -> Result<String, AllocError> {
             discard,
             metadata,
         } => {
-            let sector = *sector;
-            let flags = flag_words(heap, false, *fua, *discard, *metadata)?;
+            let flags = [(fua, "FUA"), (discard, "discard"), (metadata, "metadata")];
+            let flags = flag_words(heap, &flags)?;
             format!(in heap; "flush without data, names sector {sector}{flags}")
         }
-        Entry::Mark { text, place: _ } => {
+        Entry::Mark { text, .. } => {
             let text = printable(heap, text)?;
             format!(in heap; "mark {text}")
         }
