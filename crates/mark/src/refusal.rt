@@ -2,12 +2,13 @@
 ghost use Rattle.std.specs.Prelude.{◌≡◌};
 ghost use Rattle.mark.specs.Refusals.{code_of};
 
-use std::fmt;
+use thiserror::Error;
 
 /// Why the reader declines a text.
-#[derive(Clone, Copy, PartialEq, Eq, Debug)]
+#[derive(Clone, Copy, PartialEq, Eq, Debug, Error)]
 pub enum Refusal {
     /// No mark spells the text.
+    #[error("the text is no mark")]
     NoMark,
 }
 
@@ -18,14 +19,6 @@ impl Refusal {
     {
         match self {
             Refusal::NoMark => 10,
-        }
-    }
-}
-
-impl fmt::Display for Refusal {
-    fn fmt<W: fmt::Write>(&self, f: &mut fmt::Formatter<W>) -> fmt::Result {
-        match self {
-            Refusal::NoMark => write!(f, "the text is no mark"),
         }
     }
 }
