@@ -1,14 +1,31 @@
 -- Which candidates a choice takes, and what they leave of an image.
-use Rattle.std.specs.Prelude.{◌≡◌, ℕ, ◌<◌, ◌≤◌, Bool, true, false, cond, not, List, [], length, Some, None, Option, ◌==◌, nat_lt, slice_index, slice_index_or, slice_set}
+use Rattle.std.specs.Prelude.{◌≡◌, ℕ, ◌<◌, ◌≤◌, Bool, true, false, cond, not, List, [], map, length, Some, None, Option, ◌==◌, nat_lt, slice_index, slice_index_or, slice_set}
 use Rattle.image.specs.Sectors.{Sector, Image}
 use Rattle.crash.specs.Rules.{Recording, written}
 use Rattle.crash.specs.Ranks.{next}
 use Rattle.points.specs.Moving.{ChangedFrom}
+use Rattle.candidates.specs.declared.eight.Few.{Few}
+use Rattle.candidates.specs.Lists.{listed}
+use Rattle.standing.specs.declared.choice.Pick.{Pick}
 use Rattle.standing.specs.declared.choice.Choice.{Choice}
+
+-- the candidates of every sector, as they are kept and by their numbers, and the places of those that are taken
+abbrev pub candidates_in : Choice → List (Few ℕ)
+candidates_in c = map (λ pick. pick.candidates) c.picks
+
+abbrev pub lists_in : Choice → List (List ℕ)
+lists_in c = map (λ pick. listed pick.candidates) c.picks
+
+abbrev pub places_in : Choice → List ℕ
+places_in c = map (λ pick. pick.place) c.picks
+
+-- how many candidates every sector has
+abbrev pub counts_in : Choice → List ℕ
+counts_in c = map length (lists_in c)
 
 -- the number of the candidate that sector s takes
 abbrev pub taken : Choice → (s : ℕ) → ℕ
-taken c s = slice_index (slice_index_or c.numbers s []) (slice_index c.places s)
+taken c s = slice_index (slice_index_or (lists_in c) s []) (slice_index (places_in c) s)
 
 -- the content of that candidate
 abbrev pub chosen : Recording → Choice → (s : ℕ) → Sector
@@ -20,7 +37,11 @@ differs c s = not (taken c s == 0)
 
 -- sector s has more candidates than one
 abbrev pub wavers : Choice → (s : ℕ) → Bool
-wavers c s = nat_lt 1 (slice_index c.counts s)
+wavers c s = nat_lt 1 (slice_index (counts_in c) s)
+
+-- sector s has that pick
+abbrev pub HasPick : Choice → (s : ℕ) → Pick → Type 0
+HasPick c s pick = (s < length c.picks) × (pick ≡ slice_index_or c.picks s pick)
 
 -- the image with a content in place of sector s, if that is a whole sector
 abbrev pub replaced : Image → (s : ℕ) → Sector → Image

@@ -1,5 +1,5 @@
 -- The standing state of a crash point.
-use Rattle.std.specs.Prelude.{◌≡◌, ℕ, ◌+◌, ◌<◌, Bool, true, false, [], length, take, replicate, Ok, Err, Result, slice_index, slice_index_or}
+use Rattle.std.specs.Prelude.{◌≡◌, ℕ, ◌+◌, ◌<◌, Bool, true, false, [], length, take, replicate, Ok, Err, Result, slice_index_or}
 use Rattle.image.specs.Sectors.{Image}
 use Rattle.crash.specs.Rules.{Recording}
 use Rattle.crash.specs.States.{candidate_numbers, states}
@@ -9,20 +9,21 @@ use Rattle.candidates.specs.declared.refusal.Refusal.{Refusal}
 use Rattle.candidates.specs.declared.refusal.Refusal.TheVariants.{SectorNumber, Candidates, States}
 use Rattle.candidates.specs.Gathering.{FirstAbove, NoneAbove, numbers_at}
 use Rattle.standing.specs.declared.choice.Choice.{Choice}
+use Rattle.standing.specs.Places.{lists_in, counts_in, places_in}
 
 -- the table has the candidates of every sector at p
 pub record Lists (d : Recording) (p : ℕ) (c : Choice) : Type 0 where
-  pub numbers : (s : ℕ) → s < length d.base → take (slice_index c.counts s) (slice_index_or c.numbers s []) ≡ candidate_numbers d p s
-  pub counts : take (length d.base) c.counts ≡ counts d p
+  pub numbers : (s : ℕ) → s < length d.base → slice_index_or (lists_in c) s [] ≡ candidate_numbers d p s
+  pub counts : take (length d.base) (counts_in c) ≡ counts d p
 
 -- every sector takes its first candidate
 abbrev pub Firsts : Recording → Choice → Type 0
-Firsts d c = take (length d.base) c.places ≡ replicate (length d.base) 0
+Firsts d c = take (length d.base) (places_in c) ≡ replicate (length d.base) 0
 
 -- the state of rank r stands: its places in the table, and its image
 pub record Stands (d : Recording) (p r : ℕ) (c : Choice) (image : Image) : Type 0 where
   pub lists : Lists d p c
-  pub places : take (length d.base) c.places ≡ places_of (counts d p) r
+  pub places : take (length d.base) (places_in c) ≡ places_of (counts d p) r
   pub rank : r < length (states d p)
   pub shows : image ≡ slice_index_or (states d p) r []
 

@@ -4,6 +4,7 @@
 
 mod choice;
 mod laying;
+mod picks;
 mod sectors;
 
 pub use choice::Choice;

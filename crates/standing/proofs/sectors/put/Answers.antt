@@ -9,5 +9,5 @@ returns g c =
     record {
       below = c.write-answer.ensures.kept;
       image =
-          put_one base _ _ c.args.trace.now c.args.sector c.args.number c.fetch-base.result c.content.result.now c.write-answer.result (length_overlaid state.written state.cells base) c.fetch-base.ensures c.content.ensures c.write-answer.ensures.answer c.write-answer.ensures.after;
+          put_one base _ _ c.args.trace.now c.args.sector c.args.number c.fetch-base.result c.content.result.now c.write-answer.result (length_overlaid state.written state.cells base) c.fetch-base.ensures.inside c.content.ensures c.write-answer.ensures.answer c.write-answer.ensures.after;
     }
