@@ -1,5 +1,5 @@
 -- Limits of points, step by step.
-use Rattle.std.proofs.Common.{◌≡◌, ℕ, zero, suc, ◌+◌, ◌-◌, ◌<◌, ◌≤◌, Bool, true, false, cond, List, length, Ok, Err, sym, refl, subst, inl, inr, arith}
+use Rattle.std.proofs.Common.{◌≡◌, ℕ, zero, suc, ◌-◌, ◌<◌, ◌≤◌, Bool, true, false, cond, List, length, Ok, Err, sym, refl, subst, inl, inr, arith}
 use Rattle.std.proofs.lemmas.List.{length_push, length-drop}
 use Rattle.std.proofs.lemmas.Bool.{cases_lt}
 use Rattle.tree.specs.declared.node.Node.{Node}
@@ -46,10 +46,6 @@ pub node_declined : (a : Node) (marks : List Mark) (n p : ℕ) (f : Refusal) →
 node_declined a marks n p SectorNumber l h = h
 node_declined a marks n p (Candidates q) l h = (n, l, λ b. first_above_any a b marks n p q h)
 node_declined a marks n p (States q) l h = h
-
--- one more below
-pub below_more : (P : ℕ → Type 0) (i : ℕ) → ((k : ℕ) → k < i → P k) → P i → (k : ℕ) → k < i + 1 → P k
-below_more P i h x k l = elim (cases_lt k i) [ inl a ↦ h k a | inr a ↦ let e : i ≡ k = omega arith in subst P e x ]
 
 module _ (d : Recording) (marks : List Mark) where
   -- both checks passed

@@ -24,12 +24,12 @@ fn widened(states: u64, candidates: usize) -> u64
 fn sector_states<S: ImageStore>(trace: &Trace, base: &S, point: usize) -> Result<u64, Refusal>
     ensures { SectorsCounted (recording_of (S.ImageStore.sectors base.now) trace.now) point result }
 {
+    // By number, since a store lends no slice of its sectors; a fold would have to ask of its
+    // closure that the product so far is within the limit.
     let mut states = 1;
     for s in 0..base.count() {
-        match candidates_of(trace, base, s, point) {
-            Ok(few) => states = widened(states, few.values().len()),
-            Err(refusal) => return Err(refusal),
-        }
+        let few = candidates_of(trace, base, s, point)?;
+        states = widened(states, few.values().len());
     }
     Ok(states)
 }
@@ -38,28 +38,23 @@ fn sector_states<S: ImageStore>(trace: &Trace, base: &S, point: usize) -> Result
 fn check_nodes(trace: &Trace, point: usize) -> Result<(), Refusal>
     ensures { NodesChecked (marks_of trace.now) point result }
 {
+    // Nodes are named by number.
     for node in 0..NODES {
-        match node_values(trace, Node::Absent, node, point) {
-            Ok(_) => {}
-            Err(refusal) => return Err(refusal),
-        }
+        node_values(trace, Node::Absent, node, point)?;
     }
     Ok(())
 }
+
+// A recording is named by its trace and its base: callers hold the two apart, and would make a
+// pair of them for one call.
 
 /// The number of states of a point. A sector or a node with more than 8 candidates, at the point
 /// or before it, comes before too many states.
 pub fn point_states<S: ImageStore>(trace: &Trace, base: &S, point: usize) -> Result<u64, Refusal>
     ensures { Counted (recording_of (S.ImageStore.sectors base.now) trace.now) (marks_of trace.now) point result }
 {
-    let states = match sector_states(trace, base, point) {
-        Ok(states) => states,
-        Err(refusal) => return Err(refusal),
-    };
-    match check_nodes(trace, point) {
-        Ok(()) => {}
-        Err(refusal) => return Err(refusal),
-    }
+    let states = sector_states(trace, base, point)?;
+    check_nodes(trace, point)?;
     if states > MOST_STATES {
         return Err(Refusal::States { point });
     }
@@ -71,10 +66,7 @@ pub fn check_points<S: ImageStore>(trace: &Trace, base: &S) -> Result<(), Refusa
     ensures { Checked (recording_of (S.ImageStore.sectors base.now) trace.now) (marks_of trace.now) result }
 {
     for point in 0..=trace.len() {
-        match point_states(trace, base, point) {
-            Ok(_) => {}
-            Err(refusal) => return Err(refusal),
-        }
+        point_states(trace, base, point)?;
     }
     Ok(())
 }

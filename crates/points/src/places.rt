@@ -14,9 +14,7 @@ pub fn advance(places: &mut [usize], counts: &[usize]) -> Result<Option<usize>, 
     if places.len() != counts.len() {
         return Err(LengthsDiffer);
     }
-    let mut i = places.len();
-    while i > 0 {
-        i -= 1;
+    for i in (0..places.len()).rev() {
         let last = counts[i].saturating_sub(1);
         if places[i] < last {
             places[i] += 1;

@@ -1,31 +1,27 @@
-use Rattle.std.proofs.Common.{◌≡◌, ℕ, ◌<◌, length, refl, ap, ◌∙◌, arith}
+use Rattle.std.proofs.Common.{below_more, ◌≡◌, ℕ, ◌<◌, length, ap, ◌∙◌, arith}
+use Rattle.std.proofs.lemmas.Result.{err_from_is_err_and}
 use Rattle.crash.specs.Ranks.{product}
 use Rattle.trace.specs.Meaning.{recording_of}
 use Rattle.candidates.specs.Gathering.{NoneAbove, numbers_at}
 use Rattle.candidates.specs.Lists.{listed}
 use Rattle.points.specs.Counting.{widths, capped}
 use Rattle.points.proofs.Multiplying.{width_more}
-use Rattle.points.proofs.Limiting.{below_more, sector_declined}
+use Rattle.points.proofs.Limiting.{sector_declined}
 use Rattle.points.proofs.count.sector_states.Goals as goal
 
-pub loop-s-init : goal.loop-s-init
-loop-s-init g c = (refl, λ k h. absurd (omega arith))
-
-pub widened-states-requires : goal.widened-states-requires
-widened-states-requires g c = record { states = omega (arith, c.loop-s.invariant.0); candidates = c.values.ensures.few }
-
-pub returns-in-Err : goal.returns-in-Err
-returns-in-Err g c =
+pub returns-in_err-few : goal.returns-in_err-few
+returns-in_err-few g c =
     let image = g.S.ImageStore.sectors c.args.base.now in
     let inside : c.loop-s.s < length image = omega (arith, c.count-s-end.ensures.number, c.loop-s-test.true) in
-    sector_declined (recording_of image c.args.trace.now) c.args.point c.loop-s.s c.in-Err.refusal inside c.in-Err.ensures
+    let p = err_from_is_err_and c.from_residual.result c.from_residual.ensures.1 in
+    rw (p.1, p.2) (sector_declined (recording_of image c.args.trace.now) c.args.point c.loop-s.s _ inside c.in_err-few.ensures)
 
 pub loop-s-preserved : goal.loop-s-preserved
 loop-s-preserved g c =
     let d = recording_of (g.S.ImageStore.sectors c.args.base.now) c.args.trace.now in
     let p = c.args.point in
-    let h = c.in-Ok.ensures in (
-      width_more d p c.loop-s.s c.loop-s.states (length c.values.result.now) c.widened-states.result (listed c.in-Ok.few) c.loop-s.invariant.0 h.2 (ap length c.values.ensures.values) c.widened-states.ensures,
+    let h = c.in_ok-few.ensures in (
+      width_more d p c.loop-s.s c.loop-s.states (length c.values.result.now) c.widened-states.result (listed c.in_ok-few.few) c.loop-s.invariant.0 h.2 (ap length c.values.ensures.values) c.widened-states.ensures,
       below_more (λ (k : ℕ). NoneAbove (numbers_at d k) p) c.loop-s.s c.loop-s.invariant.1 h.1,
     )
 
