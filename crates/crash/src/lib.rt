@@ -53,6 +53,7 @@ pub fn nodes_are_the_rules()
 {}
 
 /// Small recordings.
+#[tactic(auto, unfolding(crate::specs::States::is_durable, crate::specs::States::numbers, crate::specs::States::candidates, crate::specs::States::columns, crate::specs::States::states, crate::specs::States::points, crate::specs::States::list, tree::specs::Prints::print_of))]
 pub fn examples_stand()
     ensures { Examples }
 {}
