@@ -23,6 +23,7 @@ pub fn recover_apart<F: FileSystem, A: ImageStore, B: ImageStore>(
     ensures kept { B.ImageStore.keeps out.old out.new }
 {
     let answer = system.recover(over, tree);
+    // A store of another size is left as it is, and the answer is that of the recovery all the same.
     let _ = copy_image(over, out);
     answer
 }

@@ -1,27 +1,23 @@
 //! The lines that say what came of a recovery.
 ghost use Rattle.std.specs.Prelude.{◌≡◌, IfOk, string_bytes};
 ghost use Rattle.filesystem.specs.Outcomes.{told, code_of};
-ghost use Rattle.recovery.specs.Lines.{node_line, node_lines, pair_line, lines_of};
+ghost use Rattle.recovery.specs.Lines.{node_lines, pair_line, lines_of};
 
 use filesystem::Fault;
 use std::alloc::{AllocError, Global};
-use tree::{NODES, Node, Tree};
-
-/// The line of node `k`.
-fn node_line(heap: Global, k: usize, node: Node) -> Result<String, AllocError>
-    ensures { IfOk result (λ s. string_bytes s ≡ node_line k node) }
-{
-    format!(in heap; "{k} {node}\n")
-}
+use std::fmt::Write;
+use tree::{NODES, Tree};
 
 /// The lines of a tree's nodes.
+#[tactic(auto, unfolding(crate::specs::Lines::node_lines))]
 fn tree_lines(heap: Global, tree: &Tree) -> Result<String, AllocError>
     ensures { IfOk result (λ s. string_bytes s ≡ node_lines tree.now.nodes 16) }
 {
     let mut lines = String::new(heap);
+    // By number: a tree lends its nodes one by one.
     for k in 0..NODES {
-        let text = node_line(heap, k, tree.node(k))?;
-        lines.push_str(text.as_str())?;
+        let node = tree.node(k);
+        writeln!(lines, "{k} {node}")?;
     }
     Ok(lines)
 }

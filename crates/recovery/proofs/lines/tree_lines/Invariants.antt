@@ -4,4 +4,4 @@ use Rattle.recovery.specs.Lines.{node_lines}
 use Rattle.recovery.proofs.lines.tree_lines.Given as goal
 
 abbrev pub invariant-loop-k : goal.invariant-loop-k
-invariant-loop-k l = string_bytes l.lines ≡ node_lines l.initial.tree.nodes l.k
+invariant-loop-k l = string_bytes l.lines ≡ node_lines l.initial.tree.nodes l.k-counter
