@@ -8,6 +8,7 @@ mod tables {
     use loading::read_trace;
     use points::{LengthsDiffer, advance, check_points, point_states};
     use std::alloc::{AllocError, Global};
+    use std::iter;
     use std::test::Fail;
     use tree::Node;
 
@@ -52,15 +53,11 @@ mod tables {
 
     // Appends a number of `width` bytes, the least first.
     fn push_number(row: &mut Vec<u8>, number: u64, width: usize) -> Result<(), AllocError> {
-        let bytes = number.to_le_bytes();
-        row.extend_from_slice(&bytes[0..width.min(8)])
+        row.extend_from_slice(&number.to_le_bytes()[..width.min(8)])
     }
 
     fn push_many(row: &mut Vec<u8>, byte: u8, n: usize) -> Result<(), AllocError> {
-        for _ in 0..n {
-            row.push(byte)?;
-        }
-        Ok(())
+        row.extend(iter::repeat(byte).take(n))
     }
 
     // A recording's head.
@@ -102,24 +99,21 @@ mod tables {
         Ok(row)
     }
 
+    // The number of states of the last point, or the number and the place of the refusal.
+    fn states_of(heap: Global, row: &[u8], base: &Flat) -> Result<u64, (u64, u64)> {
+        let trace = read_trace(heap, row, base).map_err(|refusal| refusal
+            .code()
+            .unwrap_or((99, 0)))?;
+        check_points(&trace, base).map_err(|refusal| refusal.code())?;
+        point_states(&trace, base, trace.len()).map_err(|refusal| refusal.code())
+    }
+
     // Over 64 sectors full of 3: the number and the place of the refusal, or 0 and the number of
     // states of the last point.
     fn answer(heap: Global, row: &[u8]) -> Result<(u64, u64), AllocError> {
-        let mut base = Vec::new(heap);
-        push_many(&mut base, 3, 32768)?;
+        let mut base = vec![in heap; 3u8; 32768]?;
         let flat = Flat::new(base.as_mut_slice());
-        let trace = match read_trace(heap, row, &flat) {
-            Ok(trace) => trace,
-            Err(refusal) => return Ok(refusal.code().unwrap_or((99, 0))),
-        };
-        match check_points(&trace, &flat) {
-            Ok(()) => {}
-            Err(refusal) => return Ok(refusal.code()),
-        }
-        match point_states(&trace, &flat, trace.len()) {
-            Ok(states) => Ok((0, states)),
-            Err(refusal) => Ok(refusal.code()),
-        }
+        Ok(states_of(heap, row, &flat).map_or_else(|code| code, |states| (0, states)))
     }
 
     fn answer_lines(heap: Global, lines: &[Line]) -> Result<(u64, u64), AllocError> {
@@ -129,20 +123,14 @@ mod tables {
 
     // So many sectors, each written once.
     fn spread(heap: Global, n: u64) -> Result<Vec<Line>, AllocError> {
-        let mut lines = Vec::new(heap);
-        for s in 0..n {
-            lines.push(write(s, 1, 0))?;
-        }
-        Ok(lines)
+        (0..n).map(|s| write(s, 1, 0)).collect(heap)
     }
 
     // One sector written n times, with other bytes each time.
     fn stack(heap: Global, n: u8) -> Result<Vec<Line>, AllocError> {
-        let mut lines = Vec::new(heap);
-        for i in 0..n {
-            lines.push(write(40, i.saturating_add(10), 0))?;
-        }
-        Ok(lines)
+        (0..n)
+            .map(|i| write(40, i.saturating_add(10), 0))
+            .collect(heap)
     }
 
     #[test]
@@ -193,9 +181,7 @@ mod tables {
     fn candidates_come_before_states(rt: HostRuntime) -> Result<(), Fail> {
         let heap = rt.alloc();
         let mut lines = spread(heap, 17)?;
-        for i in 0..7u8 {
-            lines.push(write(40, i.saturating_add(10), 0))?;
-        }
+        lines.extend_from_slice(stack(heap, 7)?.as_slice())?;
         assert!(rt; answer_lines(heap, lines.as_slice())? == (0, 1048576));
         lines.push(write(40, 99, 0))?;
         assert!(rt; answer_lines(heap, lines.as_slice())? == (13, 25));
@@ -287,20 +273,13 @@ mod tables {
             write(5, 3, 0),
         ];
         let row = recorded(heap, &lines)?;
-        let mut base = Vec::new(heap);
-        push_many(&mut base, 3, 4096)?;
+        let mut base = vec![in heap; 3u8; 4096]?;
         let flat = Flat::new(base.as_mut_slice());
-        let Ok(trace) = read_trace(heap, row.as_slice(), &flat) else {
-            return Err(Fail::new("declined"));
-        };
-        let Ok(few) = candidates_of(&trace, &flat, 5, 4) else {
-            return Err(Fail::new("declined"));
-        };
+        let trace = read_trace(heap, row.as_slice(), &flat)?;
+        let few = candidates_of(&trace, &flat, 5, 4)?;
         assert!(rt; few.values() == [0, 1, 2].as_slice());
         assert!(rt; candidates_of(&trace, &flat, 8, 4).is_err());
-        let Ok(nodes) = node_values(&trace, Node::Absent, 1, 4) else {
-            return Err(Fail::new("declined"));
-        };
+        let nodes = node_values(&trace, Node::Absent, 1, 4)?;
         assert!(rt; nodes.values().len() == 1);
         Ok(())
     }
@@ -309,11 +288,17 @@ mod tables {
     fn places_in_lexicographic_order(rt: HostRuntime) -> Result<(), Fail> {
         let counts = [2usize, 1, 3];
         let mut places = [0usize; 3];
-        let orders = [[0usize, 0, 1], [0, 0, 2], [1, 0, 0], [1, 0, 1], [1, 0, 2]];
-        let firsts = [2usize, 2, 0, 2, 2];
-        for i in 0..5usize {
-            assert!(rt; advance(&mut places, &counts) == Ok(Some(firsts[i])));
-            assert!(rt; places == orders[i]);
+        // the first sector whose place changes, and the places then
+        let moves = [
+            (2usize, [0usize, 0, 1]),
+            (2, [0, 0, 2]),
+            (0, [1, 0, 0]),
+            (2, [1, 0, 1]),
+            (2, [1, 0, 2]),
+        ];
+        for (first, order) in moves {
+            assert!(rt; advance(&mut places, &counts) == Ok(Some(first)));
+            assert!(rt; places == order);
         }
         assert!(rt; advance(&mut places, &counts) == Ok(None));
         assert!(rt; places == [0, 0, 0]);
