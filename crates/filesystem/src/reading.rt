@@ -20,7 +20,7 @@ fn front_print<S: ImageStore>(image: &S, sector: usize, size: usize) -> u32
     ensures { result ≡ print_of (take size (sector_of (S.sectors image.now) sector)) }
 {
     let buffer = fetch(image, sector);
-    print(&buffer[0..size.min(SECTOR)])
+    print(&buffer[..size.min(SECTOR)])
 }
 
 /// The node that a word means by what it says.

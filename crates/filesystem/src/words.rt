@@ -10,6 +10,7 @@ fn byte_at(sector: &[u8], i: usize) -> u8
 }
 
 /// Word `i` of a sector, the least byte first; bytes past the sector's end count as 0.
+#[tactic(auto, unfolding(crate::specs::Words::word_at))]
 pub fn word_at(sector: &[u8], i: u8) -> u32
     ensures { result ≡ word_at sector.now i }
 {
@@ -22,6 +23,7 @@ pub fn word_at(sector: &[u8], i: u8) -> u32
     ])
 }
 
+// A kind is a number in the layout too: what it says depends on the place of the word.
 /// The top two bits of a word.
 pub fn kind_of(word: u32) -> u32
     ensures { result ≡ kind word }

@@ -21,11 +21,11 @@ one_stands true m n e = (refl, cc)
 one_stands false m n e = (cc, cc)
 
 -- a described transaction stands where it is committed
-pub described_stands : (im : Image) (s n k : ℕ) (d : Sector) (homes : List ℕ) → s ≡ sequence_of im → n ≡ length im → d ≡ descriptor im → describes s n d ≡ true
-    → homes ≡ homes_in d → k ≡ length homes → commits s im k ≡ stands im
-described_stands im s n k d homes es en ed t eh ek =
-    let size : k ≡ size_of im = ek ∙ ap length eh ∙ length-map-range_with_len (home_in d) 0 (size_in d) ∙ ap size_in ed in
-    ap (λ x. commits x im k) es ∙ ap (commits (sequence_of im) im) size
+pub described_stands : (im : Image) (s n : ℕ) (d : Sector) (homes : List ℕ) → s ≡ sequence_of im → n ≡ length im → d ≡ descriptor im → describes s n d ≡ true
+    → homes ≡ homes_in d → commits s im (length homes) ≡ stands im
+described_stands im s n d homes es en ed t eh =
+    let size : length homes ≡ size_of im = ap length eh ∙ length-map-range_with_len (home_in d) 0 (size_in d) ∙ ap size_in ed in
+    ap (λ x. commits x im (length homes)) es ∙ ap (commits (sequence_of im) im) size
     ∙ sym (ap (λ b. b && commits (sequence_of im) im (size_of im))
     (sym (ap (λ x. describes x n d) es ∙ ap (λ x. describes (sequence_of im) x d) en ∙ ap (describes (sequence_of im) (length im)) ed) ∙ t))
 

@@ -1,5 +1,6 @@
 //! Whether a transaction stands.
-ghost use Rattle.std.specs.Prelude.{◌≡◌, ◌≤◌, true, false, MatchOption};
+ghost use Rattle.std.specs.Prelude.{◌≡◌, true, false, MatchOption};
+ghost use Rattle.arrayvec.specs.ArrayVec.{array_vec_len};
 ghost use Rattle.journalled.specs.Journal.{sequence_of, descriptor, homes_in, commits, stands};
 
 use crate::descriptor::{Homes, described};
@@ -14,12 +15,12 @@ fn sequence_of<S: ImageStore>(image: &S) -> u32
     rest_of(word_at(&fetch(image, 0), 2))
 }
 
-/// Whether sector 3 + `size` commits a transaction of the sequence number.
+/// Whether the sector behind those of the transaction commits it with the sequence number.
 #[tactic(auto, unfolding(crate::specs::Journal::commits))]
-fn is_committed<S: ImageStore>(sequence: u32, image: &S, size: usize) -> bool
-    requires { size ≤ 6 }
-    ensures { result ≡ commits sequence (S.sectors image.now) size }
+fn is_committed<S: ImageStore>(sequence: u32, image: &S, homes: &Homes) -> bool
+    ensures { result ≡ commits sequence (S.sectors image.now) (array_vec_len homes.now) }
 {
+    let size = homes.len();
     let sector = fetch(image, 3 + size);
     is_word(word_at(&sector, 0), 1, sequence)
         && is_word(word_at(&sector, 1), 3, journal_sum(image, size))
@@ -31,5 +32,5 @@ pub fn standing<S: ImageStore>(image: &S) -> Option<Homes>
 {
     let sequence = sequence_of(image);
     let homes = described(sequence, image.count(), &fetch(image, 2))?;
-    is_committed(sequence, image, homes.len()).then_some(homes)
+    is_committed(sequence, image, &homes).then_some(homes)
 }

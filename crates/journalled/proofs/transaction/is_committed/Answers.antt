@@ -7,5 +7,5 @@ use Rattle.journalled.proofs.transaction.is_committed.Goals as goal
 pub returns-then-is_word : goal.returns-then-is_word
 unfolding commits
 returns-then-is_word g c =
-    let sum = c.journal_sum.ensures ∙ journal_added (g.S.ImageStore.sectors c.args.image.now) c.args.size in
+    let sum = c.journal_sum.ensures ∙ journal_added (g.S.ImageStore.sectors c.args.image.now) c.len-size.result in
     search rules
