@@ -1,5 +1,5 @@
 -- A node's history as that of a sector: a mark that puts a value writes it, and a sync flushes.
-use Rattle.std.proofs.Common.{◌≡◌, ℕ, zero, suc, ◌≤◌, Bool, true, false, cond, ◌↔◌, List, [], ◌∷◌, map, length, sym, refl, ap, ◌∙◌, subst, inl, inr, arith}
+use Rattle.std.proofs.Common.{◌≡◌, ℕ, zero, suc, ◌≤◌, Bool, true, false, cond, ◌↔◌, List, [], ◌∷◌, map, length, sym, refl, ap, ◌∙◌, subst, inl, inr}
 use Rattle.std.proofs.lemmas.List.{get_or-map, get_or_past, length-map}
 use Rattle.std.proofs.lemmas.Bool.{cases_lt, cases_Bool}
 use Rattle.tree.specs.declared.node.Node.{Node}
@@ -43,7 +43,7 @@ module _ (n : ℕ) (marks : List Mark) where
   not_both (file k parent size print) e = refl
   not_both (directory k parent) e = refl
   not_both (absent k) e = refl
-  not_both (sync k) e = let z : ◌≡◌ {A = ℕ} 0 1 = ap (λ (b : Bool). cond b 1 0) e in absurd (omega arith)
+  not_both (sync k) e = cc
   not_both comment e = refl
 
   turn_with : (m : Mark) (x : Node) (held : List Node) (wr : Bool) → is_put m n ≡ wr → x ≡ value_of m → turn (node_effect n m) 0 x held ≡ node_turn m n held
@@ -70,8 +70,8 @@ module _ (n : ℕ) (marks : List Mark) where
     | inl t ↦ t
     | inr f ↦
         let a = (writer_decides (node_effect n (mark_at marks k)) 0).1 (subst (λ (e : Effect). Writes e 0) (effect_is k) w) in
-        let z : ◌≡◌ {A = ℕ} 0 1 = ap (λ (b : Bool). cond b 1 0) (sym (writer_is (mark_at marks k) false f) ∙ a) in
-        absurd (omega arith)
+        let is = writer_is (mark_at marks k) false f in
+        cc
   ]
 
   put_writes : (k : ℕ) → is_put (mark_at marks k) n ≡ true → Writes (effect_at (node_disk n marks) k) 0

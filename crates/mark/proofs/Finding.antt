@@ -74,7 +74,7 @@ whether_right : (t : List ℕ) (m : Mark) → Right t (whether t m)
 unfolding Right
 whether_right t m k e = elim (cases_Bool (spells m t)) [
   | inl s ↦ let q : m ≡ k = let w = ap (λ b. cond b (Some m) None) s in cc in subst (λ x. Spells x t) q (spells_true m t s)
-  | inr s ↦ absurd (let w = ap (λ b. cond b (Some m) None) s in let z : ◌≡◌ {A = ℕ} 0 1 = cc in omega arith)
+  | inr s ↦ let w = ap (λ b. cond b (Some m) None) s in cc
 ]
 
 whether_there : (t : List ℕ) (m : Mark) → Spells m t → There (whether t m)
@@ -89,7 +89,7 @@ either_right t None p a b = b
 either_left : (o p : Option Mark) → There o → There (either o p)
 unfolding There
 either_left (Some m) p h = (m, refl)
-either_left None p h = absurd (let e = h.1 in let z : ◌≡◌ {A = ℕ} 0 1 = cc in omega arith)
+either_left None p h = let e = h.1 in cc
 
 either_other : (o p : Option Mark) → There p → There (either o p)
 unfolding There
@@ -98,7 +98,7 @@ either_other None p h = h
 
 among_right : (t : List ℕ) (n : ℕ) (f : ℕ → Option Mark) → ((k : ℕ) → Right t (f k)) → Right t (among n f)
 unfolding among Right
-among_right t zero f h m e = absurd (let z : ◌≡◌ {A = ℕ} 0 1 = cc in omega arith)
+among_right t zero f h m e = cc
 among_right t (suc n) f h m e = either_right t (among n f) (f n) (among_right t n f h) (h n) m e
 
 among_there : (n k : ℕ) (f : ℕ → Option Mark) → k < n → There (f k) → There (among n f)

@@ -1,7 +1,7 @@
 -- What load takes hangs together: its states are the permitted images, and its judgements say what they stand for.
 use Rattle.std.specs.Prelude.{◌≡◌, ℕ, ◌+◌, cond, List, [], length, drop, Some, None, Ok, Err, Option, Result, ◌≢◌, nat_lt, slice_index_or}
 use Rattle.std.proofs.Math.Path.{refl}
-use Rattle.std.proofs.Common.{sym, ap, subst, ◌∙◌, arith}
+use Rattle.std.proofs.Common.{sym, ap, subst, ◌∙◌}
 use Rattle.std.proofs.Math.Logic.{inl, inr}
 use Rattle.std.specs.List.{range_with_len}
 use Rattle.std.proofs.lemmas.Bool.{cases_Bool}
@@ -54,7 +54,7 @@ pub record Takes (outcome : Image → Outcome) (base : Image) (R : Recording) : 
   pub meaning : R ≡ meaning_of outcome base nodes items
 
 never : (n p : ℕ) (R : Recording) → declines n p ≢ takes R
-never n p R e = let z : ◌≡◌ {A = ℕ} 0 1 = cc in omega arith
+never n p R e = cc
 
 module _ (outcome : Image → Outcome) (base : Image) (bytes : List ℕ) (R : Recording) where
   from_points : (o : Option (ℕ × ℕ)) (S : Recording) → by_points o (takes S) ≡ takes R → R ≡ S

@@ -25,13 +25,13 @@ module _ (nodes : List Node) (k : ℕ) where
 
   -- the parent of a node is a lower one, but for node 0
   pub parent_lower : (n : Node) → placed nodes k n ≡ true → (p : ℕ) → parent_of n ≡ Some p → 0 < k → p < k
-  parent_lower Absent h p e l = absurd (let z : ◌≡◌ {A = ℕ} 0 1 = cc in omega arith)
+  parent_lower Absent h p e l = cc
   parent_lower (Directory q) h p e l = let s : q ≡ p = cc in omega (arith, (directory_lies q l h).0)
   parent_lower (File q m r) h p e l = let s : q ≡ p = cc in omega (arith, (file_lies q m r h).0)
 
   -- and a directory
   pub parent_directory : get_or nodes 0 Absent ≡ Directory 0 → (n : Node) → placed nodes k n ≡ true → (p : ℕ) → parent_of n ≡ Some p → is_directory (slice_index_or nodes p Absent) ≡ true
-  parent_directory root Absent h p e = absurd (let z : ◌≡◌ {A = ℕ} 0 1 = cc in omega arith)
+  parent_directory root Absent h p e = cc
   parent_directory root (File q m r) h p e = let s : q ≡ p = cc in ap (λ j. is_directory (slice_index_or nodes j Absent)) (sym s) ∙ (file_lies q m r h).1
   parent_directory root (Directory q) h p e =
       let s : q ≡ p = cc in
@@ -65,13 +65,13 @@ module _ (nodes : List Node) (size : length nodes ≡ 16) (ok : (k : ℕ) → k 
   pub lower : (k p : ℕ) → 0 < k → parent_of (slice_index_or nodes k Absent) ≡ Some p → p < k
   lower k p l e = elim (cases_lt k 16) [
     | inl h ↦ parent_lower nodes k (slice_index_or nodes k Absent) (stands k h) p e l
-    | inr h ↦ let q = past k h in absurd (let z : ◌≡◌ {A = ℕ} 0 1 = cc (ap parent_of q) in omega arith)
+    | inr h ↦ let q = ap parent_of (past k h) in cc
   ]
 
   pub directories : (k p : ℕ) → parent_of (slice_index_or nodes k Absent) ≡ Some p → is_directory (slice_index_or nodes p Absent) ≡ true
   directories k p e = elim (cases_lt k 16) [
     | inl h ↦ parent_directory nodes k root (slice_index_or nodes k Absent) (stands k h) p e
-    | inr h ↦ let q = past k h in absurd (let z : ◌≡◌ {A = ℕ} 0 1 = cc (ap parent_of q) in omega arith)
+    | inr h ↦ let q = ap parent_of (past k h) in cc
   ]
 
   fits : (k : ℕ) (n : Node) → placed nodes k n ≡ true → length_of n ≤ 512
