@@ -1,9 +1,12 @@
 -- The bits of a mask, one by one.
-use Rattle.std.proofs.Common.{◌≡◌, ℕ, zero, suc, ◌+◌, ◌-◌, ◌*◌, ◌/◌, ◌%◌, ◌^◌, ◌<◌, Bool, true, false, cond, eqb, ◌⊎◌, sym, refl, ap, ◌∙◌, inl, inr, mod-eq_of_lt, add_comm, arith, eq-eqb, ne_eqb}
+use Rattle.std.proofs.Common.{◌≡◌, ℕ, zero, suc, ◌+◌, ◌-◌, ◌*◌, ◌/◌, ◌%◌, ◌^◌, ◌<◌, Bool, true, false, cond, eqb, ◌⊎◌, sym, refl, ap, ◌∙◌, inl, inr, mod-eq_of_lt, add_comm, add-one, arith, eq-eqb, ne_eqb}
 use lib.Bits.{bit_and, bit_or}
 use lib.Count.{ones, ones_cat}
 use native.Mathlib.Nat.{div-eq_of_lt, zero-div}
 use Rattle.std.proofs.lemmas.Nat.{and_mask, or_shr, or_mod, one_shl, pow-add, pow_pos, shl-shr, mod-pow-add, pow_below, mod_below}
+use Rattle.std.specs.List.{range_with_len, sum_by}
+use Rattle.std.proofs.lemmas.List.{map-id}
+use Rattle.std.proofs.lemmas.List.FromFn.{sum_by-map-range_with_len_more}
 use Rattle.std.proofs.lemmas.Bool.{cases_eq, cases_lt}
 use Rattle.image.specs.Layers.{has, how_many}
 
@@ -67,12 +70,19 @@ ones_zero = refl
 one_more : (k : ℕ) → suc k ≡ 1 + k
 one_more k = omega arith
 
+how_many_more : (test : ℕ → Bool) (n : ℕ) → how_many test (suc n) ≡ how_many test n + cond (test n) 1 0
+how_many_more test n =
+    let f : ℕ → ℕ = λ k. cond (test k) 1 0 in
+    ap (how_many test) (sym (add-one n)) ∙ ap (sum_by f) (sym (map-id (range_with_len 0 (n + 1))))
+    ∙ sum_by-map-range_with_len_more f (λ k. k) 0 n n (omega arith) ∙ ap (λ xs. sum_by f xs + f n) (map-id (range_with_len 0 n))
+
 ones_below : (m k : ℕ) → ones (m % 2 ^ k) ≡ how_many (has m) k
-unfolding how_many has
+unfolding has
 ones_below m zero = let e : m % 1 ≡ 0 = omega arith in ap ones e ∙ ones_zero
 ones_below m (suc k) =
     ap ones (ap (λ x. m % 2 ^ x) (one_more k) ∙ mod-pow-add m 1 k)
     ∙ ones_cat k (m / 2 ^ k % 2) (m % 2 ^ k) (mod_below m (2 ^ k) (pow_pos k)) ∙ ap (λ x. x + ones (m % 2 ^ k)) (one_bit (m / 2 ^ k)) ∙ ap (λ x. cond (has m k) 1 0 + x) (ones_below m k) ∙ add_comm (cond (has m k) 1 0) (how_many (has m) k)
+    ∙ sym (how_many_more (has m) k)
 
 pub ones_how_many : (m : ℕ) → m < 2 ^ 64 → ones m ≡ how_many (has m) 64
 ones_how_many m h = ap ones (sym (mod-eq_of_lt h)) ∙ ones_below m 64

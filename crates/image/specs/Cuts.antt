@@ -1,6 +1,8 @@
 -- The sectors of a row of bytes, and what a write of one sector does to them.
-use Rattle.std.specs.Prelude.{◌≡◌, ℕ, ◌+◌, ◌-◌, ◌*◌, ◌<◌, ◌≤◌, ◌≢◌, List, [], ◌++◌, length, get_or, take, drop, slice_index, slice_index_or, slice_set, refl}
+use Rattle.std.specs.Prelude.{◌≡◌, ℕ, zero, suc, ◌+◌, ◌-◌, ◌*◌, ◌<◌, ◌≤◌, ◌≢◌, List, [], ◌∷◌, ◌++◌, map, length, get_or, take, drop, slice_index, slice_index_or, slice_set, refl}
 use Rattle.std.proofs.Common.{sym, ap, ◌∙◌, inl, inr, arith}
+use Rattle.std.specs.List.{range_with_len}
+use Rattle.std.specs.Simd.{first_chunks}
 use Rattle.std.proofs.lemmas.List.FromFn.{length-map-range_with_len, get_or-map-range_with_len}
 use Rattle.std.proofs.lemmas.List.{ext_get_or, drop-take, drop_at, take_at, length-take-le, length-drop, length-take, length-set, get_or-set_same, get_or-set_other, drop-drop, length-append, take-append-le, take-take, append_assoc, get_or-take, get_or-drop, get_or_past}
 use Rattle.std.proofs.lemmas.Bool.{cases_eq, cases_lt}
@@ -112,3 +114,14 @@ put_untouched b n s h whole =
     let w = within_cut b n h in
     let l : n < count_in (length b) = rw length_cut at h in
     (length_put b n s w whole, past b n s w whole (512 * count_in (length b)) (omega arith))
+
+-- the whole sectors of a row, chunk by chunk
+chunks_from : (row : List ℕ) (i k : ℕ) → first_chunks 512 k (drop (512 * i) row) ≡ map (sector_at row) (range_with_len i k)
+chunks_from row i zero = refl
+chunks_from row i (suc k) =
+    let e : 512 * i + 512 ≡ 512 * (i + 1) = omega arith in
+    ap (λ xs. sector_at row i ∷ first_chunks 512 k xs) (drop-drop 512 (512 * i) row ∙ ap (λ n. drop n row) e)
+    ∙ ap (λ xs. sector_at row i ∷ xs) (chunks_from row (i + 1) k)
+
+pub chunks_are_sectors : (row : List ℕ) (k : ℕ) → first_chunks 512 k row ≡ map (sector_at row) (range_with_len 0 k)
+chunks_are_sectors row k = chunks_from row 0 k

@@ -1,7 +1,7 @@
 -- Sectors held over an image: which are held, and what the two show together.
 use Rattle.std.specs.Prelude.{◌≡◌, ℕ, zero, suc, ◌+◌, ◌*◌, ◌/◌, ◌%◌, ◌^◌, ◌<◌, ◌≤◌, Bool, true, false, cond, List, [], map, length, ◌==◌, slice_index_or, refl}
 use Rattle.std.proofs.Common.{ap, ◌∙◌, arith, add-one}
-use Rattle.std.specs.List.{range_with_len}
+use Rattle.std.specs.List.{count_by, range_with_len}
 use Rattle.std.proofs.lemmas.List.FromFn.{length-map-range_with_len, get_or-map-range_with_len}
 use Rattle.image.specs.Sectors.{Image, Sector, Shaped, Bytes, sector_at}
 use Rattle.image.specs.Cuts.{length_sector, bytes_sector}
@@ -11,26 +11,8 @@ unfoldable pub has : ℕ → ℕ → Bool
 has mask k = mask / 2 ^ k % 2 == 1
 
 -- how many of the numbers below n pass the test
-unfoldable pub how_many : (ℕ → Bool) → ℕ → ℕ
-how_many test zero = 0
-how_many test (suc n) = how_many test n + cond (test n) 1 0
-
-pub how_many_none : (test : ℕ → Bool) → how_many test 0 ≡ 0
-unfolding how_many
-how_many_none test = refl
-
-pub how_many_more : (test : ℕ → Bool) (n : ℕ) → how_many test (n + 1) ≡ how_many test n + cond (test n) 1 0
-unfolding how_many
-how_many_more test n = ap (how_many test) (add-one n)
-
-pub how_many_le : (test : ℕ → Bool) (n : ℕ) → how_many test n ≤ n
-unfolding how_many
-how_many_le test zero = omega arith
-how_many_le test (suc n) = let h = how_many_le test n in let c : cond (test n) 1 0 ≤ 1 = one (test n) in omega arith
-  where
-    one : (b : Bool) → cond b 1 0 ≤ 1
-    one true = omega arith
-    one false = omega arith
+abbrev pub how_many : (ℕ → Bool) → ℕ → ℕ
+how_many test n = count_by test (range_with_len 0 n)
 
 -- what sector k shows: the held one where there is one, else that of the image below
 abbrev pub showing : (mask : ℕ) (cells : List ℕ) (below : Image) → ℕ → Sector

@@ -1,3 +1,5 @@
 pub mod Patching
 pub mod Copying
-pub mod Replaying
+pub mod Comparing
+pub mod Entering
+pub mod Placing

@@ -1,9 +1,12 @@
 -- One new sector after the other.
-use Rattle.std.proofs.Common.{◌≡◌, ℕ, ◌+◌, ◌-◌, ◌<◌, false, cond, ◌&&◌, ltb, leb, [], length, get_or, set, sym, ap, ◌∙◌, inl, inr, arith}
+use Rattle.std.proofs.Common.{◌≡◌, ℕ, ◌+◌, ◌-◌, ◌/◌, ◌<◌, false, cond, ◌&&◌, ltb, leb, [], map, replicate, length, get_or, set, sym, refl, ap, ◌∙◌, inl, inr, arith}
 use Rattle.std.proofs.lemmas.Bool.{cases_eq, cases_lt, lt-ltb, le-ltb, le-leb, lt-leb, and_left, and_right, and_from, and_cases, both_ways, ltb-false}
 use Rattle.std.proofs.lemmas.List.{ext_get_or, length-set, get_or-set_same, get_or-set_other}
 use Rattle.std.proofs.lemmas.List.FromFn.{length-map-range_with_len, get_or-map-range_with_len}
-use Rattle.image.specs.Sectors.{Image, Sector}
+use Rattle.std.specs.List.{range_with_len}
+use Rattle.image.specs.Sectors.{Image, Sector, sector_at}
+use Rattle.recording.specs.Items.{Item, write, discard, flush, mark, sectors_of, data_of}
+use Rattle.recording.specs.Writes.{nth}
 use Rattle.patch.specs.Patched.{patched}
 
 module _ (first : ℕ) (new : ℕ → Sector) (image : Image) where
@@ -57,6 +60,13 @@ module _ (first : ℕ) (new : ℕ → Sector) (image : Image) where
             get_or-set_other (patched first n new image) (first + n) k (new n) [] ne
             ∙ patched_at n k h ∙ sym (other n k ne) ∙ sym (patched_at (n + 1) k h)
       ]
+
+-- an entry's data sector by sector, and zeros where there are none
+pub nth_of_data : (e : Item) (i : ℕ) → i < sectors_of e → get_or (map (sector_at (data_of e)) (range_with_len 0 (length (data_of e) / 512))) i (replicate 512 0) ≡ nth e i
+nth_of_data (write sector fl fua meta content) i h = get_or-map-range_with_len (sector_at content) 0 (length content / 512) i i (replicate 512 0) h (omega arith)
+nth_of_data (discard sector sectors fl meta) i h = refl
+nth_of_data (flush sector fua dis meta) i h = absurd (omega arith)
+nth_of_data (mark text) i h = absurd (omega arith)
 
 -- what lies inside, where some sectors do not lie outside
 pub lies_inside : (first sectors count i : ℕ) → i < sectors → false ≡ ltb 0 sectors && ltb count (first + sectors) → first + i < count

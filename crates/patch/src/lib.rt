@@ -4,6 +4,7 @@
 mod apply;
 mod compare;
 mod declined;
+mod entries;
 mod replay;
 
 pub use apply::{Outside, apply_entry};

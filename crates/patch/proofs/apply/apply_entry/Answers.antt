@@ -1,5 +1,6 @@
 -- After i turns the first i of the entry's sectors are new.
-use Rattle.std.proofs.Common.{◌≡◌, ◌+◌, ◌<◌, length, set, sym, ap, ◌∙◌, arith}
+use Rattle.std.proofs.Common.{◌≡◌, ◌+◌, ◌<◌, length, is_ok, set, sym, ap, ◌∙◌, arith}
+use Rattle.image.specs.Access.{access_ok}
 use Rattle.recording.specs.Items.{sector_of}
 use Rattle.recording.specs.Writes.{nth}
 use Rattle.recording.specs.Reading.{item_seen}
@@ -13,27 +14,26 @@ loop-i-init g c =
     let image = g.S.ImageStore.sectors c.args.store.now in
     (sym (patched_none (sector_of e) (nth e) image), g.S.ImageStore.stays c.args.store.now)
 
-pub put_nth-requires : goal.put_nth-requires
-put_nth-requires g c =
+pub unwrap-requires : goal.unwrap-requires
+unwrap-requires g c =
     let e = item_seen c.args.item.now in
+    let x = c.extent-extent.result in
     let image = g.S.ImageStore.sectors c.args.store.now in
     let n : length (g.S.ImageStore.sectors c.loop-i.store) ≡ length image = ap length c.loop-i.invariant.0 ∙ length_patched (sector_of e) (nth e) image c.loop-i.i in
-    let i : c.loop-i.i < c.extent-first.result.1 = omega arith in
-    let w = lies_inside c.extent-first.result.0 c.extent-first.result.1 c.count.result c.loop-i.i i c.if-is_outside.ensures in
-    record { some = omega (arith, c.extent-first.ensures.number); inside = omega (arith, w); few = omega arith }
+    let w = lies_inside x.first x.sectors c.count.result c.loop-i.i (omega arith) c.if-is_outside.ensures in
+    ap is_ok (c.write.ensures.answer ∙ sym (access_ok _ (x.first + c.loop-i.i) _ (omega arith) (omega (arith, w))))
 
 pub loop-i-preserved : goal.loop-i-preserved
 loop-i-preserved g c =
     let e = item_seen c.args.item.now in
+    let x = c.extent-extent.result in
     let image = g.S.ImageStore.sectors c.args.store.now in
     let i = c.loop-i.i in
-    let f = c.extent-first.ensures.first in
-    let l : i < c.extent-first.result.1 = omega arith in
-    let w = lies_inside c.extent-first.result.0 c.extent-first.result.1 c.count.result i l c.if-is_outside.ensures in
-    let h : sector_of e + i < length image = omega (arith, w) in (
-      c.put_nth.ensures.after
-          ∙ ap (λ x. set x (c.extent-first.result.0 + i) (nth e i)) c.loop-i.invariant.0
-          ∙ ap (λ n. set (patched (sector_of e) i (nth e) image) (n + i) (nth e i)) f
+    let w = lies_inside x.first x.sectors c.count.result i (omega arith) c.if-is_outside.ensures in
+    let h : sector_of e + i < length image = omega (arith, w) in
+    let s : g.S.ImageStore.sectors c.write.new.self ≡ set (g.S.ImageStore.sectors c.loop-i.store) (x.first + i) (nth e i) = grind arith in (
+      s ∙ ap (λ y. set y (x.first + i) (nth e i)) c.loop-i.invariant.0
+          ∙ ap (λ n. set (patched (sector_of e) i (nth e) image) (n + i) (nth e i)) c.extent-extent.ensures.first
           ∙ patched_more (sector_of e) (nth e) image i h,
-      g.S.ImageStore.onward c.args.store.now c.loop-i.store c.put_nth.new.store c.loop-i.invariant.1 c.put_nth.ensures.kept,
+      g.S.ImageStore.onward c.args.store.now c.loop-i.store c.write.new.self c.loop-i.invariant.1 c.write.ensures.kept,
     )

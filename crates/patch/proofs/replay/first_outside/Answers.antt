@@ -1,16 +1,17 @@
--- What is left decides which entry is the first outside.
-use Rattle.std.proofs.Common.{ap, ◌∙◌}
+use Rattle.std.proofs.Common.{◌≡◌, ◌+◌, Bool, refl, ap, ◌∙◌, rules, tests}
+use Rattle.std.specs.Option.{option_map}
+use Rattle.std.proofs.lemmas.Iterator.Consumers.{YieldsList-from_first}
+use Rattle.std.proofs.lemmas.Iterator.Search.{position_from_yields_List}
+use Rattle.recording.specs.Items.{Item}
+use Rattle.recording.specs.Writes.{outside}
+use Rattle.recording.specs.Reading.{item_seen}
 use Rattle.recording.specs.Recorded.{remaining, items_of}
-use Rattle.patch.specs.Replayed.{first_outside}
-use Rattle.patch.proofs.Replaying.{opens, begun}
 use Rattle.patch.proofs.replay.first_outside.Goals as goal
 
-pub unreachable-requires : goal.unreachable-requires
-unreachable-requires c = opens c.args.bytes.now _ c.requires c.in-Err.ensures
-
-pub loop-entry-init : goal.loop-entry-init
-loop-entry-init c =
-    let r = c.in-Ok.reader in
-    let n = c.args.count in
-    let b = begun c.args.bytes.now r c.requires c.in-Ok.ensures in
-    (b.0, ap (λ k. first_outside k n (items_of (remaining r))) b.2 ∙ ap (first_outside 1 n) b.1)
+pub returns : goal.returns
+returns c =
+    let test : Item → Bool = λ e. outside e c.args.count in
+    let es = items_of (remaining c.args.entries.reader) in
+    let p = position_from_yields_List test c.position.new.self _ c.position.result c.position.ensures.ran (YieldsList-from_first item_seen (λ s. items_of (remaining s.reader)) es refl) (λ x b q k. search (rules, tests)) in
+    let e : c.map.result ≡ option_map (λ i. i + 1) c.position.result = search rules in
+    e ∙ ap (option_map (λ i. i + 1)) p
