@@ -69,7 +69,7 @@ by_sector n k used count x f h e = elim (cases_Bool (sector_cut x)) [
     | inr m ↦ absurd (
         let w = ap (λ b. cond b (Some (Incomplete k)) (cond (malformed x) (Some (Form k)) None)) c in
         let v = ap (λ b. cond b (Some (Form k)) None) m in
-        let z : ◌≡◌ {A = ℕ} 0 1 = cc in omega arith)
+        cc)
   ]
 ]
 
@@ -82,7 +82,7 @@ header_declined r used count f e = elim (cases_eq r.left 0) [
         | inl t ↦
             let q : Trailing ≡ f = let w = ap (λ b. cond b (Some Trailing) None) t in cc in
             ap of_entries (none_left r.left (next_number r) used count x z ∙ ap (λ b. cond b (Err (12, 0)) (Ok [])) t) ∙ ap (λ g. Some (RC.code_of g)) q
-        | inr t ↦ absurd (let w = ap (λ b. cond b (Some Trailing) None) t in let z : ◌≡◌ {A = ℕ} 0 1 = cc in omega arith)
+        | inr t ↦ let w = ap (λ b. cond b (Some Trailing) None) t in cc
       ]
   | inr ne ↦
       let d : sector_fault (next_number r) (ahead r) ≡ Some f = sym (ap (λ b. cond b (end_fault (ahead r)) (sector_fault (next_number r) (ahead r))) (ne_eqb r.left 0 ne)) ∙ e in
@@ -147,7 +147,7 @@ never_memory (Some m) sector sectors more k used count f e = go (ltb 0 sectors &
     go : (out much : Bool) → Err f ≡ cond out (Err (Outside k)) (cond much (Err (TooMuchData k)) (Ok m)) → Some (unwrap_or (code_of f) (0, 0)) ≡ code_of f
     go true much w = let q : f ≡ Outside k = cc in ap (λ g. Some (unwrap_or (code_of g) (0, 0))) q ∙ sym (ap code_of q)
     go false true w = let q : f ≡ TooMuchData k = cc in ap (λ g. Some (unwrap_or (code_of g) (0, 0))) q ∙ sym (ap code_of q)
-    go false false w = absurd (let z : ◌≡◌ {A = ℕ} 0 1 = cc in omega arith)
+    go false false w = cc
 
 pub ask_declined : (r : Reader) (h : Header) (k used count : ℕ) (f : Refusal) → 0 < r.left → sector_fault (next_number r) (ahead r) ≡ None → HeaderAt h (ahead r) → k ≡ next_number r → Err f ≡ answered h k used count → of_entries (remaining r used count) ≡ code_of f
 unfolding after
@@ -165,12 +165,12 @@ pub record Accepted (x : List ℕ) (used count : ℕ) (m : Mark) : Type 0 where
   pub few : used + data_in x ≤ 96
 
 accepting : (o : Option Mark) (sector sectors more k used count : ℕ) (m : Mark) → Ok m ≡ with_mark o sector sectors more k used count → (o ≡ Some m) × (ltb 0 sectors && ltb count (sector + sectors) ≡ false) × (ltb 96 (used + more) ≡ false)
-accepting None sector sectors more k used count m e = absurd (let z : ◌≡◌ {A = ℕ} 0 1 = cc in omega arith)
+accepting None sector sectors more k used count m e = cc
 accepting (Some q) sector sectors more k used count m e = go (ltb 0 sectors && ltb count (sector + sectors)) (ltb 96 (used + more)) e
   where
     go : (out much : Bool) → Ok m ≡ cond out (Err (Outside k)) (cond much (Err (TooMuchData k)) (Ok q)) → (Some q ≡ Some m) × (out ≡ false) × (much ≡ false)
-    go true much w = absurd (let z : ◌≡◌ {A = ℕ} 0 1 = cc in omega arith)
-    go false true w = absurd (let z : ◌≡◌ {A = ℕ} 0 1 = cc in omega arith)
+    go true much w = cc
+    go false true w = cc
     go false false w = (cc, refl, refl)
 
 pub ask_accepted : (x : List ℕ) (h : Header) (k used count : ℕ) (m : Mark) → HeaderAt h x → Ok m ≡ answered h k used count → Accepted x used count m
@@ -191,7 +191,7 @@ next_declined r used count m f l s a e =
       | inl t ↦
           let q : Incomplete k ≡ f = let w = ap (λ b. cond b (Some (Incomplete k)) None) t in cc in
           ap of_entries (past_sector n k used count x l s ∙ asked_tail n k used count x ∙ ap (λ q. after q (tail4 n k used count x)) (sym a) ∙ ap (λ b. cond b (Err (7, k)) (rest n k used count x)) t) ∙ ap (λ g. Some (RC.code_of g)) q
-      | inr t ↦ absurd (let w = ap (λ b. cond b (Some (Incomplete k)) None) t in let z : ◌≡◌ {A = ℕ} 0 1 = cc in omega arith)
+      | inr t ↦ let w = ap (λ b. cond b (Some (Incomplete k)) None) t in cc
     ]
 
 -- where the data are complete
@@ -202,7 +202,7 @@ complete r l s e =
     let d : cond (data_cut x) (Some (Incomplete k)) None ≡ None =
     sym (ap (λ o. or_else o (cond (data_cut x) (Some (Incomplete k)) None)) s) ∙ sym (ap (λ b. cond b (end_fault x) (entry_fault k x)) (ne_eqb r.left 0 (λ z. omega arith))) ∙ e in
     elim (cases_Bool (data_cut x)) [
-      | inl t ↦ absurd (let w = ap (λ b. cond b (Some (Incomplete k)) None) t in let z : ◌≡◌ {A = ℕ} 0 1 = cc in omega arith)
+      | inl t ↦ let w = ap (λ b. cond b (Some (Incomplete k)) None) t in cc
       | inr t ↦ t
     ]
 
@@ -228,7 +228,7 @@ marked_item false false true sector sectors f text content = refl
 marked_item false false false sector sectors f text content = refl
 
 by_value : (isMark : Bool) (o : Option Mark) (m : Mark) → cond isMark o (Some Comment) ≡ Some m → m ≡ cond isMark (unwrap_or o Comment) Comment
-by_value true None m e = absurd (let z : ◌≡◌ {A = ℕ} 0 1 = cc in omega arith)
+by_value true None m e = cc
 by_value true (Some q) m e = cc
 by_value false o m e = cc
 

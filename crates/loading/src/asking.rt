@@ -20,18 +20,18 @@ fn mark_of(header: &Header) -> Option<Mark>
 }
 
 /// Whether an entry goes over the limit of 96 data sectors, `used` of which are used.
-fn is_too_much(header: &Header, used: usize) -> bool
+fn is_too_much(header: &Header, used: u64) -> bool
     ensures { result ≡ nat_lt 96 (used + (if header.now.flags.discard then 0 else header.now.sectors)) }
 {
-    used > 96 || header.data_sectors() > 96 - used as u64
+    used > 96 || header.data_sectors() > 96 - used
 }
 
 /// The mark of an entry, or why it is declined: for its text, its sectors, its data.
-pub fn ask(header: &Header, number: u64, used: usize, count: usize) -> Result<Mark, Refusal>
+pub fn ask(header: &Header, number: u64, used: u64, count: u64) -> Result<Mark, Refusal>
     ensures { result ≡ answered header.now number used count }
 {
     let mark = mark_of(header).ok_or(Refusal::NoMark { entry: number })?;
-    if header.extent().is_outside(count as u64) {
+    if header.extent().is_outside(count) {
         return Err(Refusal::Outside { entry: number });
     }
     if is_too_much(header, used) {

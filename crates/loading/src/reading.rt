@@ -14,8 +14,8 @@ use trace::Trace;
 /// The next entry with its mark, or nothing at the end; `used` counts the data sectors so far.
 fn next_entry<'a>(
     reader: &mut Reader<'a>,
-    used: &mut usize,
-    count: usize,
+    used: &mut u64,
+    count: u64,
 ) -> Result<Option<(Entry<'a>, Mark)>, Refusal>
     requires { used.old ≤ 96 }
     ensures { NextRead count reader.old reader.new used.old used.new result }
@@ -28,7 +28,7 @@ fn next_entry<'a>(
     let Some(entry) = reader.next()? else {
         return Ok(None);
     };
-    *used += header.data_sectors() as usize;
+    *used += header.data_sectors();
     Ok(Some((entry, mark)))
 }
 
@@ -40,7 +40,7 @@ pub fn read_trace<S: ImageStore>(heap: Global, bytes: &[u8], base: &S) -> Result
     let mut reader = Reader::open(bytes)?;
     let mut trace = Trace::new(heap);
     let mut used = 0;
-    let count = base.count();
+    let count = base.count() as u64;
     while let Some((entry, mark)) = next_entry(&mut reader, &mut used, count)? {
         push_entry(heap, &mut trace, &entry, mark)?;
     }

@@ -4,20 +4,25 @@ ghost use Rattle.loading.specs.Loading.{code_of};
 ghost use Rattle.loading.specs.declared.refusal.Refusal.TheVariants.{Recording, Memory};
 
 use std::alloc::AllocError;
-use std::fmt;
+use thiserror::Error;
 
 /// Why a recording is not read into memory; an entry is named by its number, from 1.
-#[derive(Clone, Copy, PartialEq, Eq, Debug)]
+#[derive(Clone, Copy, PartialEq, Eq, Debug, Error)]
 pub enum Refusal {
     /// It is no recording.
+    #[error("{0}")]
     Recording(recording::Refusal),
     /// A mark's text is empty or of no form.
+    #[error("the text of entry {entry} is no mark")]
     NoMark { entry: u64 },
     /// An entry touches a sector outside the image.
+    #[error("entry {entry} touches a sector outside the image")]
     Outside { entry: u64 },
     /// More than 96 data sectors up to this entry.
+    #[error("up to entry {entry} there are more than 96 sectors of data")]
     TooMuchData { entry: u64 },
     /// No memory is left.
+    #[error("no memory is left")]
     Memory,
 }
 
@@ -49,24 +54,5 @@ impl From<AllocError> for Refusal {
 
     fn from(_: AllocError) -> Refusal {
         Refusal::Memory
-    }
-}
-
-impl fmt::Display for Refusal {
-    fn fmt<W: fmt::Write>(&self, f: &mut fmt::Formatter<W>) -> fmt::Result {
-        match self {
-            Refusal::Recording(refusal) => write!(f, "{refusal}"),
-            Refusal::NoMark { entry } => write!(f, "the text of entry {entry} is no mark"),
-            Refusal::Outside { entry } => {
-                write!(f, "entry {entry} touches a sector outside the image")
-            }
-            Refusal::TooMuchData { entry } => {
-                write!(
-                    f,
-                    "up to entry {entry} there are more than 96 sectors of data"
-                )
-            }
-            Refusal::Memory => write!(f, "no memory is left"),
-        }
     }
 }

@@ -1,5 +1,5 @@
 -- An entry is declined exactly if none within the rules is laid out.
-use Rattle.std.proofs.Common.{◌≡◌, ℕ, ◌+◌, ◌*◌, ◌≤◌, false, cond, List, ◌++◌, length, drop, Some, None, ap, ◌∙◌, inl, inr, arith}
+use Rattle.std.proofs.Common.{◌≡◌, ℕ, ◌+◌, ◌*◌, ◌≤◌, false, cond, List, ◌++◌, length, drop, Some, None, ap, ◌∙◌, inl, inr}
 use Rattle.std.proofs.lemmas.Bool.{le-ltb, cases_Bool}
 use Rattle.image.specs.Sectors.{Bytes}
 use Rattle.recording.specs.declared.refusal.Refusal.{Refusal}
@@ -24,7 +24,7 @@ laid_taken k e r x f l =
 
 -- a reason to decline leaves no entry
 pub none_laid : (k : ℕ) (x : List ℕ) (g : Refusal) → entry_fault k x ≡ Some g → (e : Item) (r : List ℕ) → Formed e → x ≡ entry_layout e ++ r → ⊥
-none_laid k x g d e r f l = let t = laid_taken k e r x f l in let z : ◌≡◌ {A = ℕ} 0 1 = cc in omega arith
+none_laid k x g d e r f l = let t = laid_taken k e r x f l in cc
 
 pub from_sector : (k : ℕ) (x : List ℕ) (g : Refusal) → sector_fault k x ≡ Some g → entry_fault k x ≡ Some g
 from_sector k x g d = ap (λ o. or_else o (cond (data_cut x) (Some (Incomplete k)) None)) d
@@ -37,7 +37,7 @@ well_formed k x e = elim (cases_Bool (malformed x)) [
       let t : sector_fault k x ≡ Some (Form k) =
       ap (λ b. cond b (Some (Incomplete k)) (cond (malformed x) (Some (Form k)) None)) (le-ltb (length x) 512 w)
       ∙ ap (λ b. cond b (Some (Form k)) None) m in
-      let z : ◌≡◌ {A = ℕ} 0 1 = cc in omega arith)
+      cc)
   | inr m ↦ m
 ]
 

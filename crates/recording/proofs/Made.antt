@@ -31,7 +31,7 @@ data_sectors h x e = ap (λ n. cond h.flags.discard 0 n) e.1 ∙ ap (λ f. cond 
 -- an entry's sector that is taken is whole
 pub whole_sector : (k : ℕ) (x : List ℕ) → sector_fault k x ≡ None → 512 ≤ length x
 whole_sector k x e = elim (cases_lt (length x) 512) [
-  | inl l ↦ absurd (let t : sector_fault k x ≡ Some (Incomplete k) = ap (λ b. cond b (Some (Incomplete k)) (cond (malformed x) (Some (Form k)) None)) (lt-ltb (length x) 512 l) in let z : ◌≡◌ {A = ℕ} 0 1 = cc in omega arith)
+  | inl l ↦ let t : sector_fault k x ≡ Some (Incomplete k) = ap (λ b. cond b (Some (Incomplete k)) (cond (malformed x) (Some (Form k)) None)) (lt-ltb (length x) 512 l) in cc
   | inr g ↦ g
 ]
 
@@ -62,18 +62,18 @@ front c y n e = elim (cases_lt (length y) n) [
 written : (m z d : Bool) (a n : ℕ) (f : Flags) (text content : List ℕ) (s : ℕ) (fl fua meta : Bool) (c : List ℕ)
     → write s fl fua meta c ≡ cond m (mark text) (cond z (flush a f.fua f.discard f.metadata) (cond d (discard a n f.flush f.metadata) (write a f.flush f.fua f.metadata content)))
     → c ≡ content
-written true z d a n f text content s fl fua meta c e = absurd (let q : ◌≡◌ {A = ℕ} 0 1 = cc in omega arith)
-written false true d a n f text content s fl fua meta c e = absurd (let q : ◌≡◌ {A = ℕ} 0 1 = cc in omega arith)
-written false false true a n f text content s fl fua meta c e = absurd (let q : ◌≡◌ {A = ℕ} 0 1 = cc in omega arith)
+written true z d a n f text content s fl fua meta c e = cc
+written false true d a n f text content s fl fua meta c e = cc
+written false false true a n f text content s fl fua meta c e = cc
 written false false false a n f text content s fl fua meta c e = cc
 
 marked : (m z d : Bool) (a n : ℕ) (f : Flags) (text content : List ℕ) (t : List ℕ)
     → mark t ≡ cond m (mark text) (cond z (flush a f.fua f.discard f.metadata) (cond d (discard a n f.flush f.metadata) (write a f.flush f.fua f.metadata content)))
     → t ≡ text
 marked true z d a n f text content t e = cc
-marked false true d a n f text content t e = absurd (let q : ◌≡◌ {A = ℕ} 0 1 = cc in omega arith)
-marked false false true a n f text content t e = absurd (let q : ◌≡◌ {A = ℕ} 0 1 = cc in omega arith)
-marked false false false a n f text content t e = absurd (let q : ◌≡◌ {A = ℕ} 0 1 = cc in omega arith)
+marked false true d a n f text content t e = cc
+marked false false true a n f text content t e = cc
+marked false false false a n f text content t e = cc
 
 -- an entry's bytes are those of the recording at its place
 pub placed : (s : List ℕ) (start : ℕ) (e : Entry) → item_seen e ≡ item_in (drop start s) → LiesFrom start e → Placed s e

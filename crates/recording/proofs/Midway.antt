@@ -1,5 +1,5 @@
 -- A reader on its way through a whole recording.
-use Rattle.std.proofs.Common.{◌≡◌, ℕ, ◌<◌, List, [], Some, None, Ok, Err, Option, Result, sym, refl, ap, ◌∙◌, subst, arith}
+use Rattle.std.proofs.Common.{◌≡◌, ℕ, ◌<◌, List, [], Some, None, Ok, Err, Option, Result, sym, refl, ap, ◌∙◌, subst}
 use Rattle.image.specs.Sectors.{Bytes}
 use Rattle.recording.specs.declared.refusal.Refusal.{Refusal}
 use Rattle.recording.specs.declared.entry.Reader.{Reader}
@@ -36,12 +36,12 @@ stepped s r t m h f v =
     }
 
 is_err : (o : Result (List Item) Refusal) (f : Refusal) → fault_of o ≡ Some f → o ≡ Err f
-is_err (Ok es) f e = absurd (let z : ◌≡◌ {A = ℕ} 0 1 = cc in omega arith)
+is_err (Ok es) f e = cc
 is_err (Err g) f e = cc
 
 is_ok : (o : Result (List Item) Refusal) → fault_of o ≡ None → (es : List Item) × (o ≡ Ok es)
 is_ok (Ok es) e = (es, refl)
-is_ok (Err g) e = absurd (let z : ◌≡◌ {A = ℕ} 0 1 = cc in omega arith)
+is_ok (Err g) e = cc
 
 -- where the reader declines, the recording is declined
 pub declined : (s : List ℕ) (r : Reader) (f : Refusal) → Midway s r → reader_fault r ≡ Some f → recorded s ≡ Err f

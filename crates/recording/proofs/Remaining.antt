@@ -79,4 +79,4 @@ prepended_ok e (Err f) = refl
 
 pub prepended_items : (e : Item) (o : Result (List Item) Refusal) → is_ok o ≡ true → items_of (prepend e o) ≡ e ∷ items_of o
 prepended_items e (Ok es) h = refl
-prepended_items e (Err f) h = absurd (let z : ◌≡◌ {A = ℕ} 0 1 = cc in omega arith)
+prepended_items e (Err f) h = cc

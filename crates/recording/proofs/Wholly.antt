@@ -22,33 +22,33 @@ use Rattle.recording.proofs.Heading.{head_laid, head_reads}
 -- an answer that is given had no reason against it
 pub no_reason : {A : Type 0} (o : Option Refusal) (r : Result A Refusal) (a : A) → unless o r ≡ Ok a → (o ≡ None) × (r ≡ Ok a)
 no_reason None r a e = (refl, e)
-no_reason (Some f) r a e = absurd (let z : ◌≡◌ {A = ℕ} 0 1 = cc in omega arith)
+no_reason (Some f) r a e = cc
 
 -- the reasons against an entry
 first_none : (o p : Option Refusal) → or_else o p ≡ None → (o ≡ None) × (p ≡ None)
 first_none None p e = (refl, e)
-first_none (Some f) p e = absurd (let z : ◌≡◌ {A = ℕ} 0 1 = cc in omega arith)
+first_none (Some f) p e = cc
 
 pub entry_parts : (k : ℕ) (x : List ℕ) → entry_fault k x ≡ None → (sector_fault k x ≡ None) × (512 + 512 * data_in x ≤ length x)
 entry_parts k x e =
     let p = first_none (sector_fault k x) (cond (data_cut x) (Some (Incomplete k)) None) e in (
       p.0,
       elim (cases_lt (length x) (512 + 512 * data_in x)) [
-        | inl l ↦ absurd (let t = ap (λ b. cond b (Some (Incomplete k)) None) (lt-ltb (length x) (512 + 512 * data_in x) l) in let q = p.1 in let z : ◌≡◌ {A = ℕ} 0 1 = cc in omega arith)
+        | inl l ↦ let t = ap (λ b. cond b (Some (Incomplete k)) None) (lt-ltb (length x) (512 + 512 * data_in x) l) in let q = p.1 in cc
         | inr g ↦ g
       ],
     )
 
 at_end : (x : List ℕ) → end_fault x ≡ None → x ≡ []
 at_end x e = elim (cases_lt 0 (length x)) [
-  | inl l ↦ absurd (let t = ap (λ b. cond b (Some Trailing) None) (lt-ltb 0 (length x) l) in let z : ◌≡◌ {A = ℕ} 0 1 = cc in omega arith)
+  | inl l ↦ let t = ap (λ b. cond b (Some Trailing) None) (lt-ltb 0 (length x) l) in cc
   | inr g ↦ nil_from_length x (omega arith)
 ]
 
 -- so many entries that are taken are laid out
 prepended : (e : Item) (r : Result (List Item) Refusal) (es : List Item) → prepend e r ≡ Ok es → (fs : List Item) × (r ≡ Ok fs) × (es ≡ e ∷ fs)
 prepended e (Ok fs) es q = (fs, refl, cc)
-prepended e (Err f) es q = absurd (let z : ◌≡◌ {A = ℕ} 0 1 = cc in omega arith)
+prepended e (Err f) es q = cc
 
 pub from_taken : (n k : ℕ) (x : List ℕ) (es : List Item) → Bytes x → recorded_from n k x ≡ Ok es → (length es ≡ n) × AllByRecursion Formed es × (x ≡ entries_layout es)
 unfolding recorded_from
@@ -86,12 +86,12 @@ from_given (e ∷ es) k a =
 -- a recording that is opened
 pub opened : (s : List ℕ) → open_fault s ≡ None → (head_faulty s ≡ false) × (count_in s ≤ 256)
 opened s e = elim (cases_Bool (head_faulty s)) [
-  | inl t ↦ absurd (let q = ap (λ b. cond b (Some Head) (cond (ltb 256 (count_in s)) (Some TooMany) None)) t in let z : ◌≡◌ {A = ℕ} 0 1 = cc in omega arith)
+  | inl t ↦ let q = ap (λ b. cond b (Some Head) (cond (ltb 256 (count_in s)) (Some TooMany) None)) t in cc
   | inr f ↦
       let q = ap (λ b. cond b (Some Head) (cond (ltb 256 (count_in s)) (Some TooMany) None)) f in (
         f,
         elim (cases_lt 256 (count_in s)) [
-          | inl l ↦ absurd (let t = ap (λ b. cond b (Some TooMany) None) (lt-ltb 256 (count_in s) l) in let z : ◌≡◌ {A = ℕ} 0 1 = cc in omega arith)
+          | inl l ↦ let t = ap (λ b. cond b (Some TooMany) None) (lt-ltb 256 (count_in s) l) in cc
           | inr g ↦ g
         ],
       )
@@ -125,4 +125,4 @@ laws = record { taken = λ s es bs e. let t = whole_taken s es bs e in (t.0, t.1
 -- the answer to a whole recording
 pub validated : (s : List ℕ) → Bytes s → (o : Result (List Item) Refusal) → recorded s ≡ o → Validated s (counted o)
 validated s bs (Ok es) e = let t = whole_taken s es bs e in (es, t.0, refl, t.1)
-validated s bs (Err f) e = λ es w l. let q = whole_given es w in let t = ap recorded l in let z : ◌≡◌ {A = ℕ} 0 1 = cc in omega arith
+validated s bs (Err f) e = λ es w l. let q = whole_given es w in let t = ap recorded l in cc

@@ -13,7 +13,7 @@ pub struct Fields {
     pub sector: u64,
     pub sectors: u64,
     pub bits: u64,
-    pub size: u64,
+    pub size: usize,
 }
 
 impl Fields {
@@ -26,9 +26,9 @@ impl Fields {
             sector: number64(rest, 0),
             sectors: number64(rest, 8),
             bits: number64(rest, 16),
-            size: number64(rest, 24),
+            size: number64(rest, 24) as usize,
         };
-        if fields.are_flawed() || !zeros(&rest[32 + fields.size as usize..512]) {
+        if fields.are_flawed() || !zeros(&rest[32 + fields.size..512]) {
             return None;
         }
         Some(fields)

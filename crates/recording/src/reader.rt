@@ -13,7 +13,7 @@ fn is_head_faulty(bytes: &[u8]) -> bool
     ensures { result ≡ head_faulty bytes.now }
 {
     bytes.len() < 512
-        || &bytes[0..8] != b"rhswfsj\0".as_slice()
+        || field(bytes, 0) != *b"rhswfsj\0"
         || number64(bytes, 8) != 1
         || u32::from_le_bytes(field(bytes, 24)) != 512
         || !zeros(&bytes[28..512])
@@ -31,7 +31,7 @@ fn header_at<'a>(rest: &'a [u8], number: u64) -> Result<Header<'a>, Refusal>
         sector: fields.sector,
         sectors: fields.sectors,
         flags: fields.flags(),
-        text: &rest[32..32 + fields.size as usize],
+        text: &rest[32..32 + fields.size],
     })
 }
 
@@ -80,12 +80,12 @@ fn entry_at<'a>(rest: &'a [u8], start: usize, number: u64) -> Result<Found<'a>, 
     ensures laid { FindingLaid rest.now result }
 {
     let header = header_at(rest, number)?;
-    let sectors = header.data_sectors();
+    let sectors = header.data_sectors() as usize;
     let whole = (rest.len() - 512) / 512;
-    if sectors > whole as u64 {
+    if sectors > whole {
         return Err(Refusal::Incomplete { entry: number });
     }
-    let size = 512 + sectors as usize * 512;
+    let size = 512 + sectors * 512;
     let entry = entry_of(header, &rest[512..size], start);
     Ok(Found { entry, size })
 }

@@ -2,20 +2,25 @@
 ghost use Rattle.std.specs.Prelude.{◌≡◌};
 ghost use Rattle.recording.specs.Refusals.{code_of};
 
-use std::fmt;
+use thiserror::Error;
 
 /// Why a recording is declined; an entry is named by its number, from 1.
-#[derive(Clone, Copy, PartialEq, Eq, Debug)]
+#[derive(Clone, Copy, PartialEq, Eq, Debug, Error)]
 pub enum Refusal {
     /// Shorter than a sector, or a field or a zero of the head is wrong.
+    #[error("it does not begin with a head sector of dm-log-writes version 1 with sectors of 512 bytes")]
     Head,
     /// More than 256 entries.
+    #[error("it has more than 256 entries")]
     TooMany,
     /// An entry's sector or its data are not complete.
+    #[error("it ends within the sector or the data of entry {entry}")]
     Incomplete { entry: u64 },
     /// An entry's sector breaks a rule.
+    #[error("the fields, flags, text or zeros of entry {entry} break the rules")]
     Form { entry: u64 },
     /// Bytes follow the last entry.
+    #[error("bytes follow its last entry")]
     Trailing,
 }
 
@@ -30,26 +35,6 @@ impl Refusal {
             Refusal::Incomplete { entry } => (7, entry),
             Refusal::Form { entry } => (8, entry),
             Refusal::Trailing => (12, 0),
-        }
-    }
-}
-
-impl fmt::Display for Refusal {
-    fn fmt<W: fmt::Write>(&self, f: &mut fmt::Formatter<W>) -> fmt::Result {
-        match self {
-            Refusal::Head => write!(
-                f,
-                "it does not begin with a head sector of dm-log-writes version 1 with sectors of 512 bytes"
-            ),
-            Refusal::TooMany => write!(f, "it has more than 256 entries"),
-            Refusal::Incomplete { entry } => {
-                write!(f, "it ends within the sector or the data of entry {entry}")
-            }
-            Refusal::Form { entry } => write!(
-                f,
-                "the fields, flags, text or zeros of entry {entry} break the rules"
-            ),
-            Refusal::Trailing => write!(f, "bytes follow its last entry"),
         }
     }
 }

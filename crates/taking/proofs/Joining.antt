@@ -1,5 +1,5 @@
 -- What is read and what is checked, joined.
-use Rattle.std.proofs.Common.{◌≡◌, ℕ, ◌≤◌, List, map, length, drop, Some, None, Ok, Err, Option, Result, sym, ap, ◌∙◌, subst, arith}
+use Rattle.std.proofs.Common.{◌≡◌, ℕ, ◌≤◌, List, map, length, drop, Some, None, Ok, Err, Option, Result, sym, ap, ◌∙◌, subst}
 use Rattle.std.proofs.lemmas.List.{length-map}
 use Rattle.image.specs.Sectors.{Image}
 use Rattle.tree.specs.declared.node.Node.{Node}
@@ -31,7 +31,7 @@ use Rattle.taking.proofs.Fitting.{few_told, entries_told, whole_entries}
 -- DECLINED BY THE HEAD OR AN ENTRY.
 module _ (outcome : Image → Outcome) (base : Image) (nodes : List Node) (bytes : List ℕ) (c : ℕ × ℕ) where
   by_entries_lem : (o : Result (List Item) (ℕ × ℕ)) → of_entries o ≡ Some c → by_entries outcome base nodes o ≡ declines c.0 c.1
-  by_entries_lem (Ok items) e = absurd (let z : ◌≡◌ {A = ℕ} 0 1 = cc in omega arith)
+  by_entries_lem (Ok items) e = cc
   by_entries_lem (Err r) e = let q : r ≡ c = cc in ap (λ x. declines x.0 x.1) q
 
   by_head_lem : (o : Option R.Refusal) → of_head o (of_entries (entries_of bytes (length base))) ≡ Some c → by_head outcome base nodes bytes o ≡ declines c.0 c.1

@@ -3,14 +3,16 @@ ghost use Rattle.std.specs.Prelude.{◌≡◌};
 ghost use Rattle.taking.specs.Taking.{code_of};
 ghost use Rattle.taking.specs.declared.refusal.Refusal.TheVariants.{Reading, Points};
 
-use std::fmt;
+use thiserror::Error;
 
 /// Why a recording is not taken.
-#[derive(Clone, Copy, PartialEq, Eq, Debug)]
+#[derive(Clone, Copy, PartialEq, Eq, Debug, Error)]
 pub enum Refusal {
     /// It is not read into memory.
+    #[error("{0}")]
     Reading(loading::Refusal),
     /// A crash point is beyond the limits.
+    #[error("{0}")]
     Points(candidates::Refusal),
 }
 
@@ -19,7 +21,7 @@ impl Refusal {
     pub fn code(&self) -> Option<(u64, u64)>
         ensures { result ≡ code_of self.now }
     {
-        match self {
+        match *self {
             Refusal::Reading(refusal) => refusal.code(),
             Refusal::Points(refusal) => Some(refusal.code()),
         }
@@ -39,14 +41,5 @@ impl From<candidates::Refusal> for Refusal {
 
     fn from(refusal: candidates::Refusal) -> Refusal {
         Refusal::Points(refusal)
-    }
-}
-
-impl fmt::Display for Refusal {
-    fn fmt<W: fmt::Write>(&self, f: &mut fmt::Formatter<W>) -> fmt::Result {
-        match self {
-            Refusal::Reading(refusal) => write!(f, "{refusal}"),
-            Refusal::Points(refusal) => write!(f, "{refusal}"),
-        }
     }
 }
