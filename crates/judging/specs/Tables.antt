@@ -1,18 +1,19 @@
 -- The values that each node may have at a point.
-use Rattle.std.specs.Prelude.{◌≡◌, ℕ, ◌<◌, List, [], take, Ok, Err, Result, slice_index, slice_index_or}
+use Rattle.std.specs.Prelude.{◌≡◌, ℕ, ◌<◌, List, [], map, Ok, Err, Result, slice_index_or}
 use Rattle.tree.specs.declared.node.Node.{Node}
 use Rattle.tree.specs.declared.node.Node.TheVariants.{Absent}
 use Rattle.mark.specs.declared.mark.Mark.{Mark}
 use Rattle.crash.specs.Nodes.{node_values}
 use Rattle.candidates.specs.declared.refusal.Refusal.{Refusal}
 use Rattle.candidates.specs.declared.refusal.Refusal.TheVariants.{SectorNumber, Candidates, States}
+use Rattle.candidates.specs.Lists.{listed}
 use Rattle.candidates.specs.Gathering.{FirstAbove, NoneAbove}
 use Rattle.candidates.specs.Noding.{values_at}
 use Rattle.judging.specs.declared.values.Values.{Values}
 
 -- the values that node n may have
 abbrev pub values_in : Values → ℕ → List Node
-values_in v n = take (slice_index v.counts n) (slice_index_or v.cells n [])
+values_in v n = slice_index_or (map listed v.nodes) n []
 
 -- up to p, the node has never more than 8 values; `nodes` are those of the tree recovered from the base
 abbrev pub NeverCrowded : (nodes : List Node) → List Mark → (p n : ℕ) → Type 0

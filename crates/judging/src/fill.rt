@@ -1,7 +1,6 @@
 //! Finding the values that each node may have.
-ghost use Rattle.std.specs.Prelude.{◌≡◌, ℕ, ◌<◌, ◌≢◌, []};
+ghost use Rattle.std.specs.Prelude.{◌≡◌, ℕ, []};
 ghost use Rattle.trace.specs.Meaning.{marks_of};
-ghost use Rattle.candidates.specs.Lists.{listed};
 ghost use Rattle.judging.specs.Tables.{values_in, Valued};
 
 use crate::values::Values;
@@ -14,21 +13,8 @@ impl Values {
     pub fn none() -> Values
         ensures { (n : ℕ) → values_in result n ≡ [] }
     {
-        Values {
-            cells: [[Node::Absent; 8]; 16],
-            counts: [0; 16],
-        }
-    }
-
-    /// Gives node `n` these values, in place of those that it had.
-    fn put(&mut self, n: usize, values: Few<Node>)
-        requires { n < 16 }
-        ensures here { values_in self.new n ≡ listed values }
-        ensures others { (k : ℕ) → k ≢ n → values_in self.new k ≡ values_in self.old k }
-    {
-        let (row, used) = values.into_cells();
-        self.cells[n] = row;
-        self.counts[n] = used;
+        let nodes = [Few::empty(Node::Absent); NODES];
+        Values { nodes }
     }
 
     /// The values that each node may have at a point, if `tree` is recovered from the base; or
@@ -36,13 +22,10 @@ impl Values {
     pub fn at(trace: &Trace, tree: &Tree, point: usize) -> Result<Values, Refusal>
         ensures { Valued tree.now.nodes (marks_of trace.now) point result }
     {
-        let mut values = Values::none();
+        let Values { mut nodes } = Values::none();
         for n in 0..NODES {
-            match node_values(trace, tree.node(n), n, point) {
-                Ok(few) => values.put(n, few),
-                Err(refusal) => return Err(refusal),
-            }
+            nodes[n] = node_values(trace, tree.node(n), n, point)?;
         }
-        Ok(values)
+        Ok(Values { nodes })
     }
 }

@@ -1,8 +1,8 @@
 //! Judging trees by the values that each node may have.
-ghost use Rattle.std.specs.Prelude.{◌≡◌, ℕ, ◌<◌, false};
+ghost use Rattle.std.specs.Prelude.{◌≡◌, ℕ, false};
 ghost use Rattle.image.specs.Shown.{shown, holds};
 ghost use Rattle.filesystem.specs.Outcomes.{a_tree};
-ghost use Rattle.meaning.specs.Judgements.{same_node, is_among, judgement};
+ghost use Rattle.meaning.specs.Judgements.{is_fine, judgement};
 ghost use Rattle.judging.specs.Codes.{code_of};
 ghost use Rattle.judging.specs.Tables.{values_in};
 
@@ -12,45 +12,28 @@ use filesystem::FileSystem;
 use image::{ImageStore, Overlay};
 use tree::{NODES, Node, Tree};
 
-/// Whether two nodes have the same value.
-fn same_node(x: Node, y: Node) -> bool
-    ensures { result ≡ same_node x y }
-{
-    x == y
-}
-
-/// Whether a value is one of those.
-fn is_among(value: Node, values: &[Node]) -> bool
-    ensures { result ≡ is_among value values.now }
-{
-    for v in values {
-        if same_node(*v, value) {
-            return true;
-        }
-    }
-    false
-}
-
 impl Values {
-    /// Whether node `n` may have this value.
-    fn has(&self, n: usize, value: Node) -> bool
-        requires { n < 16 }
-        ensures { result ≡ is_among value (values_in self.now n) }
+    /// The values that node `n` may have; none where there is no such node.
+    fn of(&self, n: usize) -> &[Node]
+        ensures { result.now ≡ values_in self.now n }
     {
-        let row = &self.cells[n];
-        is_among(value, &row[0..self.counts[n]])
+        self.nodes.get(n).map_or(&[], |few| few.values())
+    }
+
+    /// Whether node `n` of a tree has one of its values.
+    fn admits(&self, tree: &Tree, n: usize) -> bool
+        ensures { result ≡ is_fine (values_in self.now) tree.now.nodes n }
+    {
+        self.of(n).contains(&tree.node(n))
     }
 
     /// Whether each node of a tree has one of its values; else the lowest that has not.
     pub fn judge(&self, tree: &Tree) -> Judgement
         ensures { code_of result ≡ judgement (values_in self.now) (a_tree tree.now.nodes) }
     {
-        for n in 0..NODES {
-            if !self.has(n, tree.node(n)) {
-                return Judgement::Unadmitted { node: n as u8 };
-            }
-        }
-        Judgement::Admitted
+        (0..NODES as u8)
+            .find(|node| !self.admits(tree, usize::from(*node)))
+            .map_or(Judgement::Admitted, |node| Judgement::Unadmitted { node })
     }
 }
 
@@ -67,10 +50,7 @@ pub fn judge_state<S: ImageStore, F: FileSystem>(
 {
     let mut tree = Tree::bare();
     let answer = fs.recover(scratch, &mut tree);
-    let found = match answer {
-        Ok(()) => values.judge(&tree),
-        Err(_) => Judgement::Faulty,
-    };
+    let found = answer.map_or(Judgement::Faulty, |()| values.judge(&tree));
     scratch.forget();
     found
 }

@@ -22,12 +22,13 @@ impl Judgement {
     {
         match self {
             Judgement::Admitted => (0, 0),
-            Judgement::Unadmitted { node } => (1, *node as u32),
+            Judgement::Unadmitted { node } => (1, u32::from(*node)),
             Judgement::Faulty => (2, 0),
         }
     }
 }
 
+// By hand: a derived text would come with `Error`, and a judgement is no error.
 impl fmt::Display for Judgement {
     fn fmt<W: fmt::Write>(&self, f: &mut fmt::Formatter<W>) -> fmt::Result {
         match self {

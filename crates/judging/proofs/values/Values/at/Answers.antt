@@ -1,19 +1,14 @@
-use Rattle.std.proofs.Common.{arith}
+use Rattle.std.proofs.lemmas.Result.{err_from_is_err_and}
 use Rattle.trace.specs.Meaning.{marks_of}
-use Rattle.candidates.specs.Lists.{listed}
 use Rattle.judging.proofs.Filling.{filled_more, filling_declined}
 use Rattle.judging.proofs.values.Values.at.Goals as goal
 
 pub loop-n-preserved : goal.loop-n-preserved
 loop-n-preserved c =
-    let h = c.in-Ok.ensures in
-    filled_more c.args.tree.now.nodes (marks_of c.args.trace.now) c.args.point c.loop-n.n c.node.result c.node.ensures c.loop-n.values c.loop-n.invariant
-    c.put.new.self (listed c.in-Ok.few) h.0 h.1 c.put.ensures.here c.put.ensures.others
+    let h = c.in_ok-nodes.ensures in
+    filled_more c.args.tree.now.nodes (marks_of c.args.trace.now) c.args.point c.loop-n.n c.node.result c.node.ensures c.loop-n.nodes c.loop-n.invariant c.loop-n-test.true c.in_ok-nodes.field-0 h.0 h.1
 
-pub returns : goal.returns
-returns c = λ n l. c.loop-n.invariant n (omega arith)
-
-pub returns-in-Err : goal.returns-in-Err
-returns-in-Err c =
-    filling_declined c.args.tree.now.nodes (marks_of c.args.trace.now) c.args.point c.loop-n.n c.node.result c.node.ensures c.loop-n.values c.loop-n.invariant
-    c.loop-n-test.true c.in-Err.refusal c.in-Err.ensures
+pub returns-in_err-nodes : goal.returns-in_err-nodes
+returns-in_err-nodes c =
+    let p = err_from_is_err_and c.from_residual.result c.from_residual.ensures.1 in
+    rw (p.1, p.2) (filling_declined c.args.tree.now.nodes (marks_of c.args.trace.now) c.args.point c.loop-n.n c.node.result c.node.ensures c.loop-n.nodes c.loop-n.invariant c.loop-n-test.true _ c.in_err-nodes.ensures)
