@@ -1,14 +1,23 @@
 -- The homes of a descriptor, read one after another.
-use Rattle.std.proofs.Common.{◌≡◌, ℕ, zero, suc, ◌+◌, ◌<◌, Bool, true, false, cond, not, ◌&&◌, ◌||◌, eqb, leb, ltb, map, List, [], ◌∷◌, ◌++◌, Some, None, sym, refl, ap, ◌∙◌, add-one, arith}
+use Rattle.std.proofs.Common.{◌≡◌, ℕ, zero, suc, ◌+◌, ◌<◌, ◌≤◌, Bool, true, false, cond, not, ◌&&◌, ◌||◌, eqb, leb, ltb, map, length, get_or, set, List, [], ◌∷◌, ◌++◌, Some, None, sym, refl, ap, ◌∙◌, add-one, arith}
 use Rattle.std.specs.List.{range_with_len, list_any}
-use Rattle.std.proofs.lemmas.List.FromFn.{map-range_with_len_more}
+use Rattle.std.proofs.lemmas.List.FromFn.{map-range_with_len_more, length-map-range_with_len, get_or-map-range_with_len}
 use Rattle.std.proofs.lemmas.List.Folds.{list_any-append}
 use Rattle.std.proofs.lemmas.Bool.{and_from, and_left, and_right}
-use Rattle.image.specs.Sectors.{Sector}
+use Rattle.image.specs.Sectors.{Sector, Image}
+use Rattle.image.specs.Fetched.{sector_of}
 use Rattle.filesystem.specs.Words.{word_at, kind, rest}
 use Rattle.journalled.specs.Below.{every, every_more, every_fails}
-use Rattle.journalled.specs.Journal.{home_in, home_stands, apart, homes_stand}
-use Rattle.journalled.proofs.Recovers.{one_stands, none_is}
+use Rattle.journalled.specs.Journal.{size_in, home_in, homes_in, home_stands, apart, homes_stand, descriptor, stands, copied}
+use Rattle.journalled.specs.Copies.{home_inside, step}
+
+none_is : (b : Bool) (n : ℕ) → None ≡ cond b (Some n) None → b ≡ false
+none_is true n e = cc
+none_is false n e = refl
+
+one_stands : (b : Bool) (m n : ℕ) → Some m ≡ cond b (Some n) None → (b ≡ true) × (m ≡ n)
+one_stands true m n e = (refl, cc)
+one_stands false m n e = (cc, cc)
 
 -- a home is among those before it where it is not apart
 module _ (f : ℕ → ℕ) (h : ℕ) where
@@ -71,3 +80,23 @@ module _ (count i : ℕ) (d : Sector) (homes : List ℕ) (kept : homes ≡ map (
 
     pub all_kept : homes ++ h ∷ [] ≡ map (home_in d) (range_with_len 0 (i + 1))
     all_kept = ap (λ x. x ++ h ∷ []) kept ∙ ap (λ x. map (home_in d) (range_with_len 0 i) ++ x ∷ []) it_is ∙ sym (map-range_with_len_more (home_in d) 0 i i (omega arith))
+
+-- the homes that a descriptor names, by their numbers
+module _ (d : Sector) (homes : List ℕ) (named : homes ≡ homes_in d) where
+  pub many : length homes ≡ size_in d
+  many = ap length named ∙ length-map-range_with_len (home_in d) 0 (size_in d)
+
+  pub home_at : (i : ℕ) → i < length homes → get_or homes i 0 ≡ home_in d i
+  home_at i l = ap (λ h. get_or h i 0) named ∙ get_or-map-range_with_len (home_in d) 0 (size_in d) i i 0 (omega (arith, many)) (omega arith)
+
+-- the homes of a transaction that stands lie in the image, and a sector more is copied to each
+module _ (im : Image) (homes : List ℕ) (named : homes ≡ homes_in (descriptor im)) (room : 16 ≤ length im) (stood : stands im ≡ true) (i : ℕ) (l : i < length homes) where
+  pub named_inside : get_or homes i 0 < length im
+  named_inside =
+      let h = home_inside im room stood i (omega (arith, many (descriptor im) homes named)) in
+      omega (arith, home_at (descriptor im) homes named i l)
+
+  pub named_step : set (copied im i) (get_or homes i 0) (sector_of (copied im i) (3 + i)) ≡ copied im (i + 1)
+  named_step =
+      ap (λ h. set (copied im i) h (sector_of (copied im i) (3 + i))) (home_at (descriptor im) homes named i l)
+      ∙ step im room stood i (omega (arith, many (descriptor im) homes named))

@@ -27,6 +27,7 @@ fn replace<S: ImageStore>(image: &mut S, n: usize, sector: &[u8; SECTOR])
 }
 
 /// Replaces word `i` of a sector.
+#[tactic(auto, using(crate::proofs::Pasting::word_pasted))]
 fn put_word(sector: &mut [u8; SECTOR], i: usize, word: u32)
     requires { i < 128 }
     ensures { sector.new ≡ put_word sector.old i word }
@@ -47,6 +48,7 @@ fn advance<S: ImageStore>(image: &mut S)
 }
 
 /// Copies the sectors of the transaction to their homes.
+#[tactic(auto, using(crate::proofs::Naming::many, crate::proofs::Naming::named_inside, crate::proofs::Naming::named_step, crate::specs::Copies::copied_none, crate::specs::Copies::length_copied, crate::specs::Copies::few))]
 fn copy_homes<S: ImageStore>(image: &mut S, homes: &[usize])
     requires room { 16 ≤ length (S.sectors image.old) }
     requires stood { stands (S.sectors image.old) ≡ true }
@@ -60,6 +62,7 @@ fn copy_homes<S: ImageStore>(image: &mut S, homes: &[usize])
 }
 
 /// Carries out the transaction that stands, if one does.
+#[tactic(auto, using(crate::proofs::Recovers::none_stands, crate::proofs::Recovers::carried, crate::specs::Copies::length_copied))]
 pub fn restore<S: ImageStore>(image: &mut S)
     requires { 16 ≤ length (S.sectors image.old) }
     ensures after { S.sectors image.new ≡ recovered (S.sectors image.old) }

@@ -4,6 +4,7 @@ ghost use Rattle.journalled.specs.Transactions.{Tested, CarriedOut, Untouched, U
 
 /// Which transaction stands, what a recovery makes of the image and reads from it, which fault
 /// comes first, and that a second recovery changes nothing.
+#[tactic(auto, using(crate::proofs::Standing::tested, crate::proofs::Settling::settled, crate::proofs::Whole::carried_out, crate::proofs::Whole::untouched))]
 pub fn laws()
     ensures tested { Tested }
     ensures carried { CarriedOut }

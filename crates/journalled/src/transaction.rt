@@ -27,6 +27,7 @@ fn is_committed<S: ImageStore>(sequence: u32, image: &S, homes: &Homes) -> bool
 }
 
 /// The homes of the transaction that stands, if one does.
+#[tactic(auto, using(crate::proofs::Recovers::described_stands))]
 pub fn standing<S: ImageStore>(image: &S) -> Option<Homes>
     ensures { MatchOption result (stands (S.sectors image.now) ≡ false) (λ homes. (stands (S.sectors image.now) ≡ true) × (homes.items ≡ homes_in (descriptor (S.sectors image.now)))) }
 {
