@@ -11,6 +11,7 @@ use std::alloc::{AllocError, Global};
 use trace::{Contents, Step, Trace};
 
 /// The whole sectors of a row of bytes.
+#[tactic(auto, using(image::specs::Cuts::chunks_are_sectors))]
 fn whole_sectors(heap: Global, row: &[u8]) -> Result<Vec<[u8; 512]>, AllocError>
     ensures { IfOk result (λ sectors. sectors.items ≡ whole_sectors row.now) }
 {
