@@ -3,6 +3,7 @@ use Rattle.std.proofs.Common.{◌≡◌, ℕ, zero, suc, ◌+◌, ◌<◌, ◌�
 use Rattle.std.specs.Str.{bytes_eq}
 use Rattle.std.proofs.lemmas.List.Elements.{filter-append}
 use Rattle.std.proofs.lemmas.List.{take_more, length-take-le, append-nil}
+use Rattle.image.specs.Sectors.{Sector}
 use Rattle.crash.specs.Lists.{firsts}
 use Rattle.crash.specs.Rules.{Recording, written}
 use Rattle.crash.specs.States.{numbers, candidate_numbers}
@@ -64,9 +65,14 @@ content_written : (d : Recording) (s j : ℕ) → content_at (get_or d.base s []
 content_written d s zero = refl
 content_written d s (suc i) = refl
 
-pub firsts_candidates : (d : Recording) (p s : ℕ) → firsts (content_at (get_or d.base s []) d.effects s) (numbers d p s) ≡ candidate_numbers d p s
+firsts_candidates : (d : Recording) (p s : ℕ) → firsts (content_at (get_or d.base s []) d.effects s) (numbers d p s) ≡ candidate_numbers d p s
 unfolding candidate_numbers
 firsts_candidates d p s = λ i. firsts (λ j. content_written d s j i) (numbers d p s)
+
+-- the numbers left are those of the candidates
+pub left_candidates : (d : Recording) (p s : ℕ) (base : Sector) (all left : List ℕ) → base ≡ get_or d.base s [] → all ≡ numbers d p s → left ≡ firsts (content_at base d.effects s) all → left ≡ candidate_numbers d p s
+left_candidates d p s base all left b e f =
+    f ∙ ap (λ (x : Sector). firsts (content_at x d.effects s) all) b ∙ ap (firsts (content_at (get_or d.base s []) d.effects s)) e ∙ firsts_candidates d p s
 
 -- a refusal of the gathering is one of the candidates
 pub found_declined : (d : Recording) (p s : ℕ) (f : Refusal) → s < length d.base → Gathered d p s (Err f) → Found d p s (Err f)

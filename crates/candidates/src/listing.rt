@@ -40,17 +40,6 @@ impl<T: Copy> Few<T> {
         ensures values { result.now ≡ listed self.now }
         ensures few { length result.now ≤ 8 }
     {
-        let cells = &self.cells[..];
-        &cells[0..self.used]
-    }
-
-    /// The eight cells, and how many of them hold values.
-    pub fn into_cells(self) -> ([T; 8], usize)
-        ensures values { take result.1 result.0 ≡ listed self }
-        ensures size { length result.0 ≡ 8 }
-        ensures few { result.1 ≤ 8 }
-    {
-        let Few { cells, used } = self;
-        (cells, used)
+        &self.cells[..self.used]
     }
 }

@@ -23,15 +23,15 @@ fn put_by(mark: Mark, node: usize) -> Option<Node>
             parent,
             length,
             print,
-        } if k as usize == node => Some(Node::File {
+        } if usize::from(k) == node => Some(Node::File {
             parent,
             length,
             print,
         }),
-        Mark::Directory { node: k, parent } if k as usize == node => Some(Node::Directory {
+        Mark::Directory { node: k, parent } if usize::from(k) == node => Some(Node::Directory {
             parent,
         }),
-        Mark::Absent { node: k } if k as usize == node => Some(Node::Absent),
+        Mark::Absent { node: k } if usize::from(k) == node => Some(Node::Absent),
         _ => None,
     }
 }
@@ -41,7 +41,7 @@ fn turn(mark: Mark, node: usize) -> Turn<Node>
     ensures { (held : List Node) → turned result held ≡ node_turn mark node held }
 {
     Turn {
-        settles: matches!(mark, Mark::Sync { node: k } if k as usize == node),
+        settles: matches!(mark, Mark::Sync { node: k } if usize::from(k) == node),
         puts: put_by(mark, node),
         fua: false,
     }

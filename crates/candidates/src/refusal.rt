@@ -23,6 +23,7 @@ impl Refusal {
     pub fn code(&self) -> (u64, u64)
         ensures { result ≡ code_of self.now }
     {
+        // The rules number the conditions; `u64` has no `From<usize>`.
         match self {
             Refusal::SectorNumber => (2, 0),
             Refusal::Candidates { point } => (13, *point as u64),

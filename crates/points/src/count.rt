@@ -17,6 +17,7 @@ fn widened(states: u64, candidates: usize) -> u64
     requires candidates { candidates ≤ 8 }
     ensures { result ≡ min (states * candidates) 1048577 }
 {
+    // `u64` has no `From<usize>`.
     (states * candidates as u64).min(MOST_STATES + 1)
 }
 

@@ -1,10 +1,8 @@
-use Rattle.std.proofs.Common.{◌<◌, length, ap, ◌∙◌, arith}
+use Rattle.std.proofs.Common.{◌<◌, length, arith}
 use Rattle.std.proofs.lemmas.Result.{err_from_is_err_and}
-use Rattle.image.specs.Sectors.{Sector}
-use Rattle.crash.specs.Lists.{firsts}
-use Rattle.trace.specs.Meaning.{effects_of, recording_of, content_at}
+use Rattle.trace.specs.Meaning.{recording_of}
 use Rattle.candidates.specs.Lists.{listed}
-use Rattle.candidates.proofs.Leaving.{firsts_candidates, found_declined}
+use Rattle.candidates.proofs.Leaving.{left_candidates, found_declined}
 use Rattle.candidates.proofs.distinct.candidates_of.Goals as goal
 
 pub returns-in_err-numbers : goal.returns-in_err-numbers
@@ -17,14 +15,10 @@ returns-in_err-numbers g c =
 pub returns : goal.returns
 returns g c =
     let image = g.S.ImageStore.sectors c.args.base.now in
-    let t = c.args.trace.now in
     let s = c.args.sector in
     let inside : s < length image = omega (arith, c.count.ensures.number, c.if-sector-count.false) in
     let h = c.in_ok-numbers.ensures image in (
       inside,
       h.0,
-      c.leave_out.ensures
-          ∙ ap (λ (x : Sector). firsts (content_at x (effects_of t) s) (listed c.in_ok-numbers.numbers)) (c.fetch-content.ensures.inside inside)
-          ∙ ap (firsts (content_at _ (effects_of t) s)) h.1
-          ∙ firsts_candidates (recording_of image t) c.args.point s,
+      left_candidates (recording_of image c.args.trace.now) c.args.point s c.fetch-content.result (listed c.in_ok-numbers.numbers) (listed c.leave_out.result) (c.fetch-content.ensures.inside inside) h.1 c.leave_out.ensures,
     )
