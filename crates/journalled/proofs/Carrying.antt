@@ -9,13 +9,13 @@ use Rattle.journalled.specs.Puts.{put_same, put_other}
 use Rattle.journalled.specs.Transactions.{Transaction, Carried, home}
 use Rattle.journalled.specs.Copies.{length_copied}
 use Rattle.image.specs.Fetched.{blank, sector_of, sector_long}
+use Rattle.journalled.proofs.Recovers.{none_stands}
 use Rattle.journalled.proofs.Standing.{from_test, from_transaction, the_size}
 
 pub untouched : (im : Image) → ((k : ℕ) → Transaction im k → ⊥) → recovered im ≡ im
-unfolding recovered
 untouched im none = elim (cases_Bool (stands im)) [
   | inl t ↦ absurd (none (size_of im) (from_test im t))
-  | inr f ↦ ap (λ b. cond b (replayed im) im) f
+  | inr f ↦ sym (none_stands im f)
 ]
 
 copied_other : (im : Image) (m n : ℕ) → ((i : ℕ) → i < m → n ≢ home im i) → sector_of (copied im m) n ≡ sector_of im n

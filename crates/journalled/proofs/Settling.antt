@@ -1,19 +1,16 @@
 -- A second recovery changes nothing: the sequence number has moved on, so no transaction stands.
-use Rattle.std.proofs.Common.{◌≡◌, ℕ, ◌+◌, ◌*◌, ◌%◌, ◌^◌, ◌<◌, ◌≤◌, false, cond, not, ◌||◌, eqb, ◌⊎◌, length, Ok, Err, Result, sym, refl, ap, ◌∙◌, inl, inr, arith}
-use Rattle.std.proofs.lemmas.Bool.{cases_lt, cases_Bool, lt-ltb}
+use Rattle.std.proofs.Common.{◌≡◌, ℕ, ◌+◌, ◌*◌, ◌%◌, ◌^◌, ◌<◌, ◌≤◌, ◌⊎◌, length, Ok, Err, Result, sym, refl, ap, ◌∙◌, inl, inr, arith}
+use Rattle.std.proofs.lemmas.Bool.{cases_lt, cases_Bool}
+use Rattle.std.proofs.lemmas.Bool.Decides.{nat_tests}
 use Rattle.image.specs.Sectors.{Image, Shaped}
 use Rattle.filesystem.specs.declared.fault.Fault.{Fault}
-use Rattle.filesystem.specs.declared.fault.Fault.TheVariants.{Format, Count}
-use Rattle.filesystem.specs.Words.{word_at, is_word}
+use Rattle.filesystem.specs.Words.{word_at}
 use Rattle.filesystem.specs.Heads.{head_word}
-use Rattle.journalled.specs.Journal.{sequence_of, size_of, stands, replayed, recovered, headed, sequenced, when_ok, journalled_after}
+use Rattle.journalled.specs.Journal.{sequence_of, size_of, stands, recovered, headed, sequenced, when_ok, journalled_after}
 use Rattle.journalled.specs.Transactions.{Transaction, Settled, word}
+use Rattle.journalled.proofs.Recovers.{none_stands}
 use Rattle.journalled.proofs.Standing.{from_test}
 use Rattle.journalled.proofs.Carrying.{untouched, away, carried}
-
-still : (im : Image) → stands im ≡ false → recovered im ≡ im
-unfolding recovered
-still im f = ap (λ b. cond b (replayed im) im) f
 
 module _ (im : Image) (shaped : Shaped im) (room : 16 ≤ length im) where
   moved : (k j : ℕ) → Transaction im k → Transaction (recovered im) j → ⊥
@@ -28,7 +25,7 @@ module _ (im : Image) (shaped : Shaped im) (room : 16 ≤ length im) where
   pub twice : recovered (recovered im) ≡ recovered im
   twice = elim (cases_Bool (stands im)) [
     | inl t ↦ untouched (recovered im) (λ j u. moved (size_of im) j (from_test im t) u)
-    | inr f ↦ ap recovered (still im f)
+    | inr f ↦ ap recovered (sym (none_stands im f))
   ]
 
 whens : (r q : Result (Unit {0}) Fault) (a b : Image) → (when_ok r (when_ok q a b) b ≡ a) ⊎ (when_ok r (when_ok q a b) b ≡ b)
@@ -42,7 +39,7 @@ same (Ok x) (Err f) a b e = refl
 same (Err f) q a b e = refl
 
 short : (im : Image) → length im < 16 → journalled_after im ≡ im
-short im l = ap (λ b. when_ok (cond (b || not (eqb (head_word im 0) 0x40000001)) (Err Format) (cond (is_word 2 (length im) (head_word im 1)) (Ok tt) (Err Count))) (when_ok (sequenced im) (recovered im) im) im) (lt-ltb (length im) 16 l)
+short im l = grind (arith, nat_tests)
 
 pub settled : Settled
 settled im shaped = elim (cases_lt (length im) 16) [
