@@ -46,6 +46,7 @@ fn step_of(heap: Global, item: &Entry, mark: Mark) -> Result<Step, AllocError>
     Ok(Step {
         flush,
         fua,
+        // A sector's number as an index: the cast is proved to lose no bit.
         first: first as usize,
         contents,
         mark,

@@ -40,6 +40,7 @@ pub fn read_trace<S: ImageStore>(heap: Global, bytes: &[u8], base: &S) -> Result
     let mut reader = Reader::open(bytes)?;
     let mut trace = Trace::new(heap);
     let mut used = 0;
+    // A count as the numbers of an entry are: the cast is proved to lose no bit.
     let count = base.count() as u64;
     while let Some((entry, mark)) = next_entry(&mut reader, &mut used, count)? {
         push_entry(heap, &mut trace, &entry, mark)?;

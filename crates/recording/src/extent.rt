@@ -52,6 +52,7 @@ impl<'a> Entry<'a> {
         ensures first { result.first ≡ sector_of (item_seen self.now) }
         ensures sectors { result.sectors ≡ sectors_of (item_seen self.now) }
     {
+        // A length becomes a count: the cast is proved to lose no bit.
         let (first, sectors) = match *self {
             Entry::Write {
                 sector,

@@ -26,6 +26,7 @@ impl Fields {
             sector: number64(rest, 0),
             sectors: number64(rest, 8),
             bits: number64(rest, 16),
+            // A length: the cast is proved to lose no bit, and try_from would ask for an answer.
             size: number64(rest, 24) as usize,
         };
         if fields.are_flawed() || !zeros(&rest[32 + fields.size..512]) {

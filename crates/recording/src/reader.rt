@@ -36,6 +36,7 @@ fn header_at<'a>(rest: &'a [u8], number: u64) -> Result<Header<'a>, Refusal>
 }
 
 /// The entry of a header, with its data; its sector lies at `start`.
+// Taking header and flags apart first would name each field twice.
 fn entry_of<'a>(header: Header<'a>, content: &'a [u8], start: usize) -> Entry<'a>
     requires { start + 512 < 2 ^ 64 }
     ensures item { item_seen result ≡ item_made header.entry content.now }
@@ -80,6 +81,7 @@ fn entry_at<'a>(rest: &'a [u8], start: usize, number: u64) -> Result<Found<'a>, 
     ensures laid { FindingLaid rest.now result }
 {
     let header = header_at(rest, number)?;
+    // A count is compared as a length: the cast is proved to lose no bit.
     let sectors = header.data_sectors() as usize;
     let whole = (rest.len() - 512) / 512;
     if sectors > whole {

@@ -189,6 +189,7 @@ mod tables {
 
     const FORM: Result<u64, Refusal> = Err(Refusal::Form { entry: 1 });
 
+    // A row of the table below; a literal for each row would be no plainer.
     fn told(
         sector: u64,
         sectors: u64,
