@@ -2,6 +2,11 @@
 //! that they leave to another file. The base image is never written.
 #![tactic(auto)]
 
+ghost use Rattle.std.specs.Prelude.{◌≡◌, length, OnOk};
+ghost use Rattle.image.specs.Sectors.{cut};
+ghost use Rattle.recording.specs.Recorded.{recorded, items_of};
+ghost use Rattle.patch.specs.Replayed.{applied_all};
+
 use console::{Failed, Program, Usage};
 use image::{Flat, ImageStore, Overlay};
 use patch::{changed_sectors, copy_image, replay_recording};
@@ -68,15 +73,15 @@ impl fmt::Display for Tally {
 }
 
 /// Prints every entry, and counts them by kind.
-fn show_all(rt: &HostRuntime, bytes: &[u8]) -> Result<Tally, Failed> {
+fn show_all(program: &Program, bytes: &[u8]) -> Result<Tally, Failed> {
+    let rt = program.rt;
     let mut all = Tally::default();
-    let Ok(mut reader) = Reader::open(bytes) else {
-        return Err(Failed::Said);
-    };
-    for number in 1..=reader.total() {
-        let Ok(Some(entry)) = reader.next() else {
-            return Err(Failed::Said);
-        };
+    let mut reader = Reader::open(bytes).map_err(|why| program.declined(why.code(), why))?;
+    while let Some(entry) = reader
+        .next()
+        .map_err(|why| program.declined(why.code(), why))?
+    {
+        let number = reader.total() - reader.left();
         let text = entry_words(rt.alloc(), &entry)?;
         println!(rt; "{number}: {text}")?;
         all.count(&entry);
@@ -84,18 +89,22 @@ fn show_all(rt: &HostRuntime, bytes: &[u8]) -> Result<Tally, Failed> {
     Ok(all)
 }
 
-/// Replays a recording over a base, and makes `out` the image afterwards.
-fn replay(program: &Program, bytes: &[u8], base: &mut [u8], out: &mut [u8]) -> Result<(), Failed> {
+/// Replays a recording over a base, and makes `out` the image that the entries leave.
+fn replay(program: &Program, bytes: &[u8], base: &mut [u8], out: &mut [u8]) -> Result<(), Failed>
+    requires { length base.old ≡ length out.old }
+    ensures { OnOk result (cut out.new ≡ applied_all (items_of (recorded bytes.now)) (cut base.old)) }
+{
     let rt = program.rt;
     let mut over = Overlay::over(Flat::new(base));
     replay_recording(&mut over, bytes).map_err(|why| program.declined(why.code(), why))?;
-    let all = show_all(rt, bytes)?;
+    let all = show_all(program, bytes)?;
     println!(rt; "{all}")?;
     let changed = changed_sectors(&over.below, &over);
     let count = over.count();
     let held = over.held();
     println!(rt; "{changed} of {count} sectors changed, {held} written")?;
-    copy_image(&over, &mut Flat::new(out)).map_err(|_| Failed::Said)
+    copy_image(&over, &mut Flat::new(out)).unwrap();
+    Ok(())
 }
 
 /// Reads the two files, replays, and writes the third.
