@@ -3,13 +3,12 @@
 #![tactic(auto)]
 
 mod report;
+mod taken;
 
 use console::{Failed, Program, Usage};
 use image::Flat;
-use report::report_points;
 use std::process::ExitCode;
-use taking::take_recording;
-use trace::Trace;
+use taken::Taken;
 
 const HELP: &str = "states RECORDING BASE
 
@@ -32,23 +31,14 @@ const USAGE: Usage = Usage {
     wanted: "two files are wanted, RECORDING BASE",
 };
 
-/// The recording in memory, with the reason said where it is declined.
-fn taken(program: &Program, bytes: &[u8], base: &Flat) -> Result<Trace, Failed> {
-    take_recording(program.rt.alloc(), bytes, base).map_err(|why| match why.code() {
-        Some(code) => program.declined(code, why),
-        None => Failed::Memory,
-    })
-}
-
 /// Reads the two files and prints the points.
 fn states(program: Program, words: [String; 2]) -> Result<(), Failed> {
     let [recording, base] = &words;
     let recording = program.read("recording", recording.as_str())?;
     let mut base = program.read("base image", base.as_str())?;
     let bytes = recording.bytes.as_slice();
-    let flat = Flat::new(base.bytes.as_mut_slice());
-    let trace = taken(&program, bytes, &flat)?;
-    report_points(program.rt, &trace, &flat, bytes)
+    let taken = Taken::read(&program, bytes, Flat::new(base.bytes.as_mut_slice()))?;
+    taken.report(&program, bytes)
 }
 
 // An `Err` from main would be printed, and its reason stands on standard error already.

@@ -1,11 +1,14 @@
 //! The report: a line for each point, its sectors in flight, and the totals.
+ghost use Rattle.std.specs.Prelude.{◌≤◌, length};
+ghost use Rattle.trace.specs.Meaning.{effects_of};
+
+use crate::taken::Taken;
 use candidates::candidates_of;
-use console::Failed;
-use image::{Flat, ImageStore};
+use console::{Failed, Program};
+use image::ImageStore;
 use points::point_states;
 use recording::Reader;
 use std::alloc::{AllocError, Global};
-use trace::Trace;
 use words::entry_words;
 
 /// The word for so many states.
@@ -17,46 +20,9 @@ fn state_word(states: u64) -> &'static str {
 fn spaced(heap: Global, numbers: &[usize]) -> Result<String, AllocError> {
     let mut text = String::new(heap);
     for number in numbers {
-        let word = format!(in heap; " {number}")?;
-        text.push_str(word.as_str())?;
+        write!(text, " {number}")?;
     }
     Ok(text)
-}
-
-/// Prints the sectors that have more than one candidate at a point.
-fn report_sectors(
-    rt: &HostRuntime,
-    trace: &Trace,
-    base: &Flat,
-    point: usize,
-) -> Result<(), Failed> {
-    for sector in 0..base.count() {
-        let Ok(numbers) = candidates_of(trace, base, sector, point) else {
-            return Err(Failed::Said);
-        };
-        if numbers.values().len() > 1 {
-            let text = spaced(rt.alloc(), numbers.values())?;
-            println!(rt; "  sector {sector}:{text}")?;
-        }
-    }
-    Ok(())
-}
-
-/// Prints the line of a point and its sectors; gives the number of its states.
-fn report_point(
-    rt: &HostRuntime,
-    trace: &Trace,
-    base: &Flat,
-    point: usize,
-    before: &str,
-) -> Result<u64, Failed> {
-    let Ok(states) = point_states(trace, base, point) else {
-        return Err(Failed::Said);
-    };
-    let word = state_word(states);
-    println!(rt; "point {point}: {states} {word} {before}")?;
-    report_sectors(rt, trace, base, point)?;
-    Ok(states)
 }
 
 /// The entry before a point, in words.
@@ -71,26 +37,47 @@ fn before_point(heap: Global, point: usize, reader: &mut Reader) -> Result<Strin
     format!(in heap; "after entry {point}, {words}")
 }
 
-/// Prints every point, and then the totals.
-pub fn report_points(
-    rt: &HostRuntime,
-    trace: &Trace,
-    base: &Flat,
-    bytes: &[u8],
-) -> Result<(), Failed> {
-    let Ok(mut reader) = Reader::open(bytes) else {
-        return Err(Failed::Said);
-    };
-    let mut all = 0u64;
-    let mut widest = 0u64;
-    let mut points = 0u64;
-    for point in 0..=trace.len() {
-        let before = before_point(rt.alloc(), point, &mut reader)?;
-        let states = report_point(rt, trace, base, point, before.as_str())?;
-        all = all.saturating_add(states);
-        widest = widest.max(states);
-        points = points.saturating_add(1);
+impl<S: ImageStore> Taken<S> {
+    /// Prints the sectors that have more than one candidate at a point.
+    fn report_sectors(&self, rt: &HostRuntime, point: usize) -> Result<(), Failed>
+        requires { point ≤ length (effects_of self.now.trace) }
+    {
+        for sector in 0..self.base.count() {
+            let numbers = candidates_of(&self.trace, &self.base, sector, point).unwrap();
+            if numbers.values().len() > 1 {
+                let text = spaced(rt.alloc(), numbers.values())?;
+                println!(rt; "  sector {sector}:{text}")?;
+            }
+        }
+        Ok(())
     }
-    println!(rt; "{points} points, {all} states in all, {widest} at the widest point")?;
-    Ok(())
+
+    /// Prints the line of a point and its sectors; gives the number of its states.
+    fn report_point(&self, rt: &HostRuntime, point: usize, before: &str) -> Result<u64, Failed>
+        requires { point ≤ length (effects_of self.now.trace) }
+    {
+        let states = point_states(&self.trace, &self.base, point).unwrap();
+        let word = state_word(states);
+        println!(rt; "point {point}: {states} {word} {before}")?;
+        self.report_sectors(rt, point)?;
+        Ok(states)
+    }
+
+    /// Prints every point, and then the totals.
+    #[tactic(auto, using(trace::proofs::Writing::effects_length))]
+    pub fn report(&self, program: &Program, bytes: &[u8]) -> Result<(), Failed> {
+        let rt = program.rt;
+        let mut reader = Reader::open(bytes).map_err(|why| program.declined(why.code(), why))?;
+        let mut all = 0u64;
+        let mut widest = 0;
+        for point in 0..=self.trace.len() {
+            let before = before_point(rt.alloc(), point, &mut reader)?;
+            let states = self.report_point(rt, point, before.as_str())?;
+            all = all.saturating_add(states);
+            widest = widest.max(states);
+        }
+        let points = self.trace.len() + 1;
+        println!(rt; "{points} points, {all} states in all, {widest} at the widest point")?;
+        Ok(())
+    }
 }
