@@ -122,8 +122,7 @@ module _ (d : Recording) (p r : ℕ) (c c' : Choice) (image image' : Image) (kep
     | inl l ↦
         let a = more_some l in
         let b = moved_next None e in
-        let z : ◌≡◌ {A = ℕ} 0 1 = cc in
-        absurd (omega arith)
+        cc
     | inr g ↦ let h = st.rank in omega arith
   ]
 
@@ -137,8 +136,7 @@ module _ (d : Recording) (p r : ℕ) (c c' : Choice) (image image' : Image) (kep
           let h = st.rank in
           let a = last_none (omega arith) in
           let b = moved_next (Some (take (length d.base) (places_in c'))) e in
-          let z : ◌≡◌ {A = ℕ} 0 1 = cc in
-          absurd (omega arith)
+          cc
     ]
 
     places_on : take (length d.base) (places_in c') ≡ places_of (counts d p) (r + 1)

@@ -68,6 +68,7 @@ impl Trace {
     }
 
     /// The mark of entry `k`, from 1; a comment where no entry has that number.
+    #[tactic(auto, using(crate::proofs::Writing::mark_of_step, crate::proofs::Writing::mark_past))]
     pub fn mark(&self, k: usize) -> Mark
         ensures { result ≡ mark_at (marks_of self.now) k }
     {
@@ -75,6 +76,7 @@ impl Trace {
     }
 
     /// The content of a sector with a number: `base` with number 0, else what that entry writes.
+    #[tactic(auto, using(crate::proofs::Writing::content_of, crate::proofs::Writing::content_past))]
     pub fn content<'a>(&'a self, base: &'a [u8], sector: usize, number: usize) -> &'a [u8]
         ensures { result.now ≡ content_at base.now (effects_of self.now) sector number }
     {
