@@ -2,14 +2,16 @@
 ghost use Rattle.std.specs.Prelude.{◌≡◌};
 ghost use Rattle.image.specs.Refusals.{code_of};
 
-use std::fmt;
+use thiserror::Error;
 
 /// Why a store declines to read or write a sector.
-#[derive(Clone, Copy, PartialEq, Eq, Debug)]
+#[derive(Clone, Copy, PartialEq, Eq, Debug, Error)]
 pub enum Refusal {
     /// The buffer has not 512 bytes.
+    #[error("the buffer has not 512 bytes")]
     BufferLength,
     /// The sector's number is not below the store's count.
+    #[error("the sector lies outside the image")]
     SectorNumber,
 }
 
@@ -21,15 +23,6 @@ impl Refusal {
         match self {
             Refusal::BufferLength => (1, 0),
             Refusal::SectorNumber => (2, 0),
-        }
-    }
-}
-
-impl fmt::Display for Refusal {
-    fn fmt<W: fmt::Write>(&self, f: &mut fmt::Formatter<W>) -> fmt::Result {
-        match self {
-            Refusal::BufferLength => write!(f, "the buffer has not 512 bytes"),
-            Refusal::SectorNumber => write!(f, "the sector lies outside the image"),
         }
     }
 }

@@ -3,14 +3,16 @@ ghost use Rattle.std.specs.Prelude.{◌≡◌};
 ghost use Rattle.patch.specs.Replayed.{code_of};
 
 use recording::Refusal;
-use std::fmt;
+use thiserror::Error;
 
 /// Why a recording is not replayed.
-#[derive(Clone, Copy, PartialEq, Eq, Debug)]
+#[derive(Clone, Copy, PartialEq, Eq, Debug, Error)]
 pub enum Declined {
     /// It is no recording.
+    #[error("{0}")]
     Recording(Refusal),
     /// An entry touches a sector outside the image.
+    #[error("entry {entry} touches a sector outside the image")]
     OutsideImage { entry: u64 },
 }
 
@@ -22,17 +24,6 @@ impl Declined {
         match self {
             Declined::Recording(refusal) => refusal.code(),
             Declined::OutsideImage { entry } => (9, *entry),
-        }
-    }
-}
-
-impl fmt::Display for Declined {
-    fn fmt<W: fmt::Write>(&self, f: &mut fmt::Formatter<W>) -> fmt::Result {
-        match self {
-            Declined::Recording(refusal) => write!(f, "{refusal}"),
-            Declined::OutsideImage { entry } => {
-                write!(f, "entry {entry} touches a sector outside the image")
-            }
         }
     }
 }
