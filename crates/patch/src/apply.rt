@@ -29,6 +29,7 @@ pub fn apply_entry<S: ImageStore>(store: &mut S, item: &Entry) -> Result<(), Out
     ensures kept { S.ImageStore.keeps store.old store.new }
 {
     let extent = item.extent();
+    // `as`, here and in the replay: no `From` leads from `usize` to `u64` or back, and each cast is proved to lose nothing.
     if extent.is_outside(store.count() as u64) {
         return Err(Outside);
     }

@@ -28,6 +28,7 @@ pub fn copy_image<A: ImageStore, B: ImageStore>(from: &A, to: &mut B) -> Result<
     if count != to.count() {
         return Err(CountsDiffer);
     }
+    // A loop, since after `for_each` nothing is known of a store that its closure changes.
     for n in 0..count {
         to.write(n, &fetch(from, n)).unwrap();
     }
