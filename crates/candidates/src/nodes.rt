@@ -17,23 +17,25 @@ use tree::Node;
 fn put_by(mark: Mark, node: usize) -> Option<Node>
     ensures { result ≡ (if is_put mark node then Some (value_of mark) else None) }
 {
-    match mark {
+    let (k, value) = match mark {
         Mark::File {
-            node: k,
+            node,
             parent,
             length,
             print,
-        } if usize::from(k) == node => Some(Node::File {
-            parent,
-            length,
-            print,
-        }),
-        Mark::Directory { node: k, parent } if usize::from(k) == node => Some(Node::Directory {
-            parent,
-        }),
-        Mark::Absent { node: k } if usize::from(k) == node => Some(Node::Absent),
-        _ => None,
-    }
+        } => (
+            node,
+            Node::File {
+                parent,
+                length,
+                print,
+            },
+        ),
+        Mark::Directory { node, parent } => (node, Node::Directory { parent }),
+        Mark::Absent { node } => (node, Node::Absent),
+        Mark::Sync { .. } | Mark::Comment => return None,
+    };
+    (usize::from(k) == node).then_some(value)
 }
 
 /// What a mark does to the history of a node.

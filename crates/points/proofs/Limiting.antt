@@ -1,5 +1,5 @@
 -- Limits of points, step by step.
-use Rattle.std.proofs.Common.{◌≡◌, ℕ, zero, suc, ◌-◌, ◌<◌, ◌≤◌, Bool, true, false, cond, List, length, Ok, Err, sym, refl, subst, inl, inr, arith}
+use Rattle.std.proofs.Common.{below_more, ap, ◌∙◌, ◌+◌, ◌≡◌, ℕ, zero, suc, ◌-◌, ◌<◌, ◌≤◌, Bool, true, false, cond, List, length, Ok, Err, sym, refl, subst, inl, inr, arith}
 use Rattle.std.proofs.lemmas.List.{length_push, length-drop}
 use Rattle.std.proofs.lemmas.Bool.{cases_lt}
 use Rattle.tree.specs.declared.node.Node.{Node}
@@ -12,7 +12,9 @@ use Rattle.candidates.specs.declared.refusal.Refusal.{Refusal}
 use Rattle.candidates.specs.declared.refusal.Refusal.TheVariants.{SectorNumber, Candidates, States}
 use Rattle.candidates.specs.Gathering.{FirstAbove, NoneAbove, numbers_at, Found}
 use Rattle.candidates.specs.Noding.{values_at, NodeGathered}
-use Rattle.points.specs.Counting.{Crowded, Uncrowded, Fine, Counted, Checked, SectorsCounted, NodesChecked}
+use Rattle.candidates.specs.declared.eight.Few.{Few}
+use Rattle.points.proofs.Multiplying.{widths_states, capped_low, capped_high}
+use Rattle.points.specs.Counting.{capped, Crowded, Uncrowded, Fine, Counted, Checked, SectorsCounted, NodesChecked}
 
 -- a sector is declined
 pub sector_declined : (d : Recording) (p s : ℕ) (f : Refusal) → s < length d.base → Found d p s (Err f) → SectorsCounted d p (Err f)
@@ -34,7 +36,7 @@ unfolding node_values
 start_free a b marks n zero = refl
 start_free a b marks n (suc p) = turn_length (mark_at marks (suc p)) n (node_values a marks n p) (node_values b marks n p) (start_free a b marks n p)
 
-pub none_above_any : (a b : Node) (marks : List Mark) (n p : ℕ) → NoneAbove (values_at a marks n) p → NoneAbove (values_at b marks n) p
+none_above_any : (a b : Node) (marks : List Mark) (n p : ℕ) → NoneAbove (values_at a marks n) p → NoneAbove (values_at b marks n) p
 none_above_any a b marks n p h q l = subst (λ (k : ℕ). k ≤ 8) (start_free a b marks n q) (h q l)
 
 first_above_any : (a b : Node) (marks : List Mark) (n p q : ℕ) → FirstAbove (values_at a marks n) p q → FirstAbove (values_at b marks n) p q
@@ -47,9 +49,15 @@ node_declined a marks n p SectorNumber l h = h
 node_declined a marks n p (Candidates q) l h = (n, l, λ b. first_above_any a b marks n p q h)
 node_declined a marks n p (States q) l h = h
 
+-- one node more is not declined
+pub nodes_more : (a : Node) (marks : List Mark) (p k : ℕ) (few : Few Node) → ((n : ℕ) → n < k → (start : Node) → NoneAbove (values_at start marks n) p) → NodeGathered a marks k p (Ok few) →
+    (n : ℕ) → n < k + 1 → (start : Node) → NoneAbove (values_at start marks n) p
+nodes_more a marks p k few h g =
+    below_more (λ (n : ℕ). (start : Node) → NoneAbove (values_at start marks n) p) k h (λ start. none_above_any a start marks k p g.0)
+
 module _ (d : Recording) (marks : List Mark) where
   -- both checks passed
-  pub uncrowded_upto : (p : ℕ) → ((s : ℕ) → s < length d.base → NoneAbove (numbers_at d s) p) → ((n : ℕ) → n < 16 → (start : Node) → NoneAbove (values_at start marks n) p) →
+  uncrowded_upto : (p : ℕ) → ((s : ℕ) → s < length d.base → NoneAbove (numbers_at d s) p) → ((n : ℕ) → n < 16 → (start : Node) → NoneAbove (values_at start marks n) p) →
       (q : ℕ) → q ≤ p → Uncrowded d marks q
   uncrowded_upto p a b q l = ((λ s h. a s h q l), (λ n h start. b n h start q l))
 
@@ -63,8 +71,15 @@ module _ (d : Recording) (marks : List Mark) where
   counted_node p (Candidates q) h = ((h.2 Rattle.tree.specs.declared.node.Node.TheVariants.Absent).0, inr (h.0, h.1, λ start. (h.2 start).1))
   counted_node p (States q) h = absurd h
 
-  pub fine_counted : (p n : ℕ) → Counted d marks p (Ok n) → Fine d marks p
-  fine_counted p n h = (h.0 p (omega arith), subst (λ (k : ℕ). k ≤ 1048576) h.1 h.2)
+  pub counted_many : (p n : ℕ) → SectorsCounted d p (Ok n) → NodesChecked marks p (Ok tt) → 1048576 < n → Counted d marks p (Err (States p))
+  counted_many p n s c l = (refl, uncrowded_upto p s.0 c, capped_high n _ (s.1 ∙ ap capped (widths_states d p)) l)
+
+  pub counted_right : (p n : ℕ) → SectorsCounted d p (Ok n) → NodesChecked marks p (Ok tt) → n ≤ 1048576 → Counted d marks p (Ok n)
+  counted_right p n s c l = (uncrowded_upto p s.0 c, capped_low n _ (s.1 ∙ ap capped (widths_states d p)) l, l)
+
+  -- one point more is within the limits
+  pub fine_more : (p n : ℕ) → ((k : ℕ) → k < p → Fine d marks k) → Counted d marks p (Ok n) → (k : ℕ) → k < p + 1 → Fine d marks k
+  fine_more p n fine h = below_more (Fine d marks) p fine (h.0 p (omega arith), subst (λ (k : ℕ). k ≤ 1048576) h.1 h.2)
 
   -- a point that is crowded is not within the limits
   not_fine : (p : ℕ) → Crowded d marks p → Uncrowded d marks p → ⊥

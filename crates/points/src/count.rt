@@ -36,6 +36,7 @@ fn sector_states<S: ImageStore>(trace: &Trace, base: &S, point: usize) -> Result
 }
 
 /// Whether no node has more than 8 candidates at a point or before it.
+#[tactic(auto, using(crate::proofs::Limiting::node_declined, crate::proofs::Limiting::nodes_more))]
 fn check_nodes(trace: &Trace, point: usize) -> Result<(), Refusal>
     ensures { NodesChecked (marks_of trace.now) point result }
 {
@@ -51,6 +52,7 @@ fn check_nodes(trace: &Trace, point: usize) -> Result<(), Refusal>
 
 /// The number of states of a point. A sector or a node with more than 8 candidates, at the point
 /// or before it, comes before too many states.
+#[tactic(auto, using(crate::proofs::Limiting::counted_sector, crate::proofs::Limiting::counted_node))]
 pub fn point_states<S: ImageStore>(trace: &Trace, base: &S, point: usize) -> Result<u64, Refusal>
     ensures { Counted (recording_of (S.ImageStore.sectors base.now) trace.now) (marks_of trace.now) point result }
 {

@@ -1,5 +1,4 @@
-use Rattle.std.proofs.Common.{below_more, ◌≡◌, ℕ, ◌<◌, length, ap, ◌∙◌, arith}
-use Rattle.std.proofs.lemmas.Result.{err_from_is_err_and}
+use Rattle.std.proofs.Common.{below_more, ◌≡◌, ℕ, length, ap, ◌∙◌, arith, rules}
 use Rattle.crash.specs.Ranks.{product}
 use Rattle.trace.specs.Meaning.{recording_of}
 use Rattle.candidates.specs.Gathering.{NoneAbove, numbers_at}
@@ -10,11 +9,7 @@ use Rattle.points.proofs.Limiting.{sector_declined}
 use Rattle.points.proofs.count.sector_states.Goals as goal
 
 pub returns-in_err-few : goal.returns-in_err-few
-returns-in_err-few g c =
-    let image = g.S.ImageStore.sectors c.args.base.now in
-    let inside : c.loop-s.s < length image = omega (arith, c.count-s-end.ensures.number, c.loop-s-test.true) in
-    let p = err_from_is_err_and c.from_residual.result c.from_residual.ensures.1 in
-    rw (p.1, p.2) (sector_declined (recording_of image c.args.trace.now) c.args.point c.loop-s.s _ inside c.in_err-few.ensures)
+returns-in_err-few g c = search (rules, sector_declined)
 
 pub loop-s-preserved : goal.loop-s-preserved
 loop-s-preserved g c =
