@@ -4,6 +4,8 @@ use Rattle.std.proofs.lemmas.Bool.{cases_eq, cases_lt, lt-ltb, le-ltb, le-leb, l
 use Rattle.std.proofs.lemmas.List.{ext_get_or, length-set, get_or-set_same, get_or-set_other}
 use Rattle.std.proofs.lemmas.List.FromFn.{length-map-range_with_len, get_or-map-range_with_len}
 use Rattle.std.specs.List.{range_with_len}
+use Rattle.std.specs.Simd.{first_chunks}
+use Rattle.image.specs.Cuts.{chunks_are_sectors}
 use Rattle.image.specs.Sectors.{Image, Sector, sector_at}
 use Rattle.recording.specs.Items.{Item, write, discard, flush, mark, sectors_of, data_of}
 use Rattle.recording.specs.Writes.{nth}
@@ -62,11 +64,14 @@ module _ (first : ℕ) (new : ℕ → Sector) (image : Image) where
       ]
 
 -- an entry's data sector by sector, and zeros where there are none
-pub nth_of_data : (e : Item) (i : ℕ) → i < sectors_of e → get_or (map (sector_at (data_of e)) (range_with_len 0 (length (data_of e) / 512))) i (replicate 512 0) ≡ nth e i
+nth_of_data : (e : Item) (i : ℕ) → i < sectors_of e → get_or (map (sector_at (data_of e)) (range_with_len 0 (length (data_of e) / 512))) i (replicate 512 0) ≡ nth e i
 nth_of_data (write sector fl fua meta content) i h = get_or-map-range_with_len (sector_at content) 0 (length content / 512) i i (replicate 512 0) h (omega arith)
 nth_of_data (discard sector sectors fl meta) i h = refl
 nth_of_data (flush sector fua dis meta) i h = absurd (omega arith)
 nth_of_data (mark text) i h = absurd (omega arith)
+
+pub nth_of_chunks : (e : Item) (i : ℕ) → i < sectors_of e → get_or (first_chunks 512 (length (data_of e) / 512) (data_of e)) i (replicate 512 0) ≡ nth e i
+nth_of_chunks e i h = ap (λ xs. get_or xs i (replicate 512 0)) (chunks_are_sectors (data_of e) (length (data_of e) / 512)) ∙ nth_of_data e i h
 
 -- what lies inside, where some sectors do not lie outside
 pub lies_inside : (first sectors count i : ℕ) → i < sectors → false ≡ ltb 0 sectors && ltb count (first + sectors) → first + i < count

@@ -15,6 +15,7 @@ pub(crate) struct Entries<'a> {
 
 impl<'a> Entries<'a> {
     /// The entries of `bytes`, or the first reason to decline it.
+    #[tactic(auto, using(crate::proofs::Entering::counted_ok, recording::proofs::Remaining::remaining_whole))]
     pub(crate) fn of(bytes: &'a [u8]) -> Result<Entries<'a>, Refusal>
         ensures { MatchResult result (λ entries. remaining entries.reader ≡ recorded bytes.now) (λ refusal. recorded bytes.now ≡ Err refusal) }
     {
@@ -24,6 +25,7 @@ impl<'a> Entries<'a> {
     }
 
     /// How many entries are left.
+    #[tactic(auto, using(crate::proofs::Entering::left_is))]
     pub(crate) fn left(&self) -> u64
         ensures { result ≡ length (items_of (remaining self.now.reader)) }
     {
@@ -38,6 +40,7 @@ impl<'a> Iterator for Entries<'a> {
 
     ghost remaining = { λ s. at_most s.reader.left };
 
+    #[tactic(auto, using(crate::proofs::Entering::not_declined, crate::proofs::Entering::stays_sound))]
     fn next(&mut self) -> Option<Entry<'a>> {
         self.reader.next().unwrap()
     }

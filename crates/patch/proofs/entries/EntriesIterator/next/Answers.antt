@@ -2,14 +2,8 @@ use Rattle.std.proofs.Common.{Option, Result, subst, rules}
 use Rattle.recording.specs.declared.entry.Entry.{Entry}
 use Rattle.recording.specs.declared.refusal.Refusal.{Refusal}
 use Rattle.recording.specs.Reading.{Stepping}
-use Rattle.patch.proofs.Entering.{not_declined, stays_sound, yields, goes}
+use Rattle.patch.proofs.Entering.{yields, goes}
 use Rattle.patch.proofs.entries.EntriesIterator.next.Goals as goal
-
-pub invariant_of-self : goal.invariant_of-self
-invariant_of-self c = record { sound = stays_sound c.args.self.now.reader _ _ c.args.self.now.sound c.next.ensures.step }
-
-pub unwrap-requires : goal.unwrap-requires
-unwrap-requires c = not_declined c.args.self.now.reader _ _ c.args.self.now.sound c.next.ensures.step
 
 pub returns-clause-steps : goal.returns-clause-steps
 returns-clause-steps c =
