@@ -1,5 +1,5 @@
 -- After i turns the first i of the entry's sectors are new.
-use Rattle.std.proofs.Common.{◌≡◌, ◌+◌, ◌<◌, length, is_ok, set, sym, ap, ◌∙◌, arith}
+use Rattle.std.proofs.Common.{◌≡◌, ◌+◌, ◌<◌, length, set, sym, ap, ◌∙◌, arith}
 use Rattle.image.specs.Access.{access_ok}
 use Rattle.recording.specs.Items.{sector_of}
 use Rattle.recording.specs.Writes.{nth}
@@ -21,7 +21,8 @@ unwrap-requires g c =
     let image = g.S.ImageStore.sectors c.args.store.now in
     let n : length (g.S.ImageStore.sectors c.loop-i.store) ≡ length image = ap length c.loop-i.invariant.0 ∙ length_patched (sector_of e) (nth e) image c.loop-i.i in
     let w = lies_inside x.first x.sectors c.count.result c.loop-i.i (omega arith) c.if-is_outside.ensures in
-    ap is_ok (c.write.ensures.answer ∙ sym (access_ok _ (x.first + c.loop-i.i) _ (omega arith) (omega (arith, w))))
+    let inside : x.first + c.loop-i.i < length (g.S.ImageStore.sectors c.loop-i.store) = omega (arith, w) in
+    grind (arith, access_ok)
 
 pub loop-i-preserved : goal.loop-i-preserved
 loop-i-preserved g c =
