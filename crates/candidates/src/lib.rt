@@ -1,5 +1,4 @@
-//! The candidates of sectors and nodes at a crash point, how many states a point has, and the way
-//! from one state to the next.
+//! The candidates of sectors and nodes at a crash point.
 #![tactic(auto)]
 
 mod distinct;

@@ -68,6 +68,7 @@ pub fn point_states<S: ImageStore>(trace: &Trace, base: &S, point: usize) -> Res
 pub fn check_points<S: ImageStore>(trace: &Trace, base: &S) -> Result<(), Refusal>
     ensures { Checked (recording_of (S.ImageStore.sectors base.now) trace.now) (marks_of trace.now) result }
 {
+    // Points are named by number.
     for point in 0..=trace.len() {
         point_states(trace, base, point)?;
     }
