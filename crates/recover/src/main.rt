@@ -60,6 +60,7 @@ fn recover_files<F: FileSystem>(
 }
 
 /// Recovers by the file system that the first word names.
+// Each file system is a type of its own, so each name has its own call, here and in `recover_cases`.
 fn recover(program: Program, words: [String; 3]) -> Result<(), Failed> {
     let [name, path, out] = &words;
     match name.as_str() {

@@ -81,6 +81,7 @@ fn agrees<F: FileSystem>(program: &Program, system: &F, case: Case) -> Result<bo
 }
 
 /// The same, by the file system that the case names.
+// Each file system is a type of its own, so each name has its own call, here and in `recover`.
 fn agrees_named(program: &Program, case: Case) -> Result<bool, Failed> {
     match case.system {
         "j" => agrees(program, &Journalled, case),

@@ -1,6 +1,7 @@
 //! The report: a line for each point, its sectors in flight, and the totals.
-ghost use Rattle.std.specs.Prelude.{◌≤◌, length};
-ghost use Rattle.trace.specs.Meaning.{effects_of};
+ghost use Rattle.std.specs.Prelude.{◌≡◌, ◌≤◌, length, IfOk};
+ghost use Rattle.crash.specs.States.{states};
+ghost use Rattle.trace.specs.Meaning.{effects_of, recording_of};
 
 use crate::taken::Taken;
 use candidates::candidates_of;
@@ -55,6 +56,7 @@ impl<S: ImageStore> Taken<S> {
     /// Prints the line of a point and its sectors; gives the number of its states.
     fn report_point(&self, rt: &HostRuntime, point: usize, before: &str) -> Result<u64, Failed>
         requires { point ≤ length (effects_of self.now.trace) }
+        ensures { IfOk result (λ n. n ≡ length (states (recording_of (S.ImageStore.sectors self.now.base) self.now.trace) point)) }
     {
         let states = point_states(&self.trace, &self.base, point).unwrap();
         let word = state_word(states);
