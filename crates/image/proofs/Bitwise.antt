@@ -5,11 +5,8 @@ use lib.Count.{ones, ones_cat}
 use Rattle.std.proofs.lemmas.Nat.{pow_pos, mod-pow-add, mod_below}
 use Rattle.std.proofs.lemmas.Nat.Bits.{shr_and_one, bit_at-lt, bit_at-zero, bit_at_set_same, bit_at_set_other}
 use Rattle.std.specs.Int.{bit_at}
-use Rattle.std.specs.List.{range_with_len, sum_by}
-use Rattle.std.proofs.lemmas.List.{map-id}
-use Rattle.std.proofs.lemmas.List.FromFn.{sum_by-map-range_with_len_more}
 use Rattle.std.proofs.lemmas.Bool.{cases_eq, cases_lt}
-use Rattle.image.specs.Layers.{has, how_many}
+use Rattle.image.specs.Layers.{has, how_many, how_many_more}
 
 pub has_with : (m n k : ℕ) → n < 64 → has (bit_or m ((1 * 2 ^ n) % 2 ^ 64)) k ≡ cond (eqb k n) true (has m k)
 unfolding has
@@ -44,19 +41,13 @@ ones_zero = refl
 one_more : (k : ℕ) → suc k ≡ 1 + k
 one_more k = omega arith
 
-how_many_more : (test : ℕ → Bool) (n : ℕ) → how_many test (suc n) ≡ how_many test n + cond (test n) 1 0
-how_many_more test n =
-    let f : ℕ → ℕ = λ k. cond (test k) 1 0 in
-    ap (how_many test) (sym (add-one n)) ∙ ap (sum_by f) (sym (map-id (range_with_len 0 (n + 1))))
-    ∙ sum_by-map-range_with_len_more f (λ k. k) 0 n n (omega arith) ∙ ap (λ xs. sum_by f xs + f n) (map-id (range_with_len 0 n))
-
 ones_below : (m k : ℕ) → ones (m % 2 ^ k) ≡ how_many (has m) k
 unfolding has
 ones_below m zero = let e : m % 1 ≡ 0 = omega arith in ap ones e ∙ ones_zero
 ones_below m (suc k) =
     ap ones (ap (λ x. m % 2 ^ x) (one_more k) ∙ mod-pow-add m 1 k)
     ∙ ones_cat k (m / 2 ^ k % 2) (m % 2 ^ k) (mod_below m (2 ^ k) (pow_pos k)) ∙ ap (λ x. x + ones (m % 2 ^ k)) (one_bit (m / 2 ^ k)) ∙ ap (λ x. cond (has m k) 1 0 + x) (ones_below m k) ∙ add_comm (cond (has m k) 1 0) (how_many (has m) k)
-    ∙ sym (how_many_more (has m) k)
+    ∙ sym (how_many_more (has m) k) ∙ ap (how_many (has m)) (add-one k)
 
 pub ones_how_many : (m : ℕ) → m < 2 ^ 64 → ones m ≡ how_many (has m) 64
 ones_how_many m h = ap ones (sym (mod-eq_of_lt h)) ∙ ones_below m 64

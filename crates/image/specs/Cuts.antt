@@ -1,5 +1,5 @@
 -- The sectors of a row of bytes, and what a write of one sector does to them.
-use Rattle.std.specs.Prelude.{◌≡◌, ℕ, zero, suc, ◌+◌, ◌-◌, ◌*◌, ◌<◌, ◌≤◌, ◌≢◌, List, [], ◌∷◌, ◌++◌, map, length, get_or, take, drop, slice_index_or, slice_set, refl}
+use Rattle.std.specs.Prelude.{◌≡◌, ℕ, zero, suc, ◌+◌, ◌-◌, ◌*◌, ◌<◌, ◌≤◌, ◌≢◌, List, [], ◌∷◌, ◌++◌, map, length, get_or, take, drop, slice_index, slice_index_or, slice_set, refl}
 use Rattle.std.proofs.Common.{sym, ap, ◌∙◌, inl, inr, arith}
 use Rattle.std.specs.List.{range_with_len}
 use Rattle.std.specs.Simd.{first_chunks}
@@ -16,11 +16,15 @@ length_cut b = length-map-range_with_len (sector_at b) 0 (count_in (length b))
 pub within : (len n : ℕ) → n < count_in len → 512 * n + 512 ≤ len
 within len n h = omega (arith, div-add-mod' len 512)
 
+pub cut_at : (b : List ℕ) (n : ℕ) → n < count_in (length b) → slice_index_or (cut b) n [] ≡ sector_at b n
+cut_at b n h = get_or-map-range_with_len (sector_at b) 0 (count_in (length b)) n n [] h (omega arith)
+
+-- the same of a sector of the image that a row means
 pub within_cut : (b : List ℕ) (n : ℕ) → n < length (cut b) → 512 * n + 512 ≤ length b
 within_cut b n h = within (length b) n (rw length_cut at h)
 
-pub cut_at : (b : List ℕ) (n : ℕ) → n < length (cut b) → slice_index_or (cut b) n [] ≡ sector_at b n
-cut_at b n h = get_or-map-range_with_len (sector_at b) 0 (count_in (length b)) n n [] (rw length_cut at h) (omega arith)
+pub cut_index : (b : List ℕ) (n : ℕ) → n < length (cut b) → slice_index_or (cut b) n [] ≡ sector_at b n
+cut_index b n h = cut_at b n (rw length_cut at h)
 
 pub length_sector : (b : List ℕ) (n : ℕ) → 512 * n + 512 ≤ length b → length (sector_at b n) ≡ 512
 length_sector b n h = simp (length-take, length-drop) (omega arith)
@@ -34,8 +38,8 @@ bytes_sector b n w bs i = elim (cases_lt i 512) [
 pub cut_shaped : (b : List ℕ) → Bytes b → Shaped (cut b)
 cut_shaped b bs = record {
   few = rw length_cut (omega arith);
-  whole = λ k h. ap length (cut_at b k h) ∙ length_sector b k (within_cut b k h);
-  bytes = λ k h. rw (cut_at b k h) (bytes_sector b k (within_cut b k h) bs);
+  whole = λ k h. let l : k < count_in (length b) = rw length_cut at h in ap length (cut_at b k l) ∙ length_sector b k (within (length b) k l);
+  bytes = λ k h. let l : k < count_in (length b) = rw length_cut at h in rw (cut_at b k l) (bytes_sector b k (within (length b) k l) bs);
 }
 
 module _ (b : List ℕ) (n : ℕ) (s : List ℕ) (fits : 512 * n + 512 ≤ length b) (whole : length s ≡ 512) where
@@ -75,17 +79,22 @@ module _ (b : List ℕ) (n : ℕ) (s : List ℕ) (fits : 512 * n + 512 ≤ lengt
   pub put_other : (k : ℕ) → k ≢ n → sector_at (put b n s) k ≡ sector_at b k
   put_other k ne = elim (cases_lt k n) [ inl l ↦ put_below k l | inr l ↦ put_above k (omega arith) ]
 
-  length_cut_put : length (cut (put b n s)) ≡ length (cut b)
-  length_cut_put = length_cut (put b n s) ∙ ap count_in length_put ∙ sym (length_cut b)
-
-  cut_put : n < length (cut b) → cut (put b n s) ≡ slice_set (cut b) n s
-  cut_put l = ext_get_or [] (cut (put b n s)) (slice_set (cut b) n s) (length_cut_put ∙ sym (length-set (cut b) n s)) each
+  pub cut_put : n < count_in (length b) → cut (put b n s) ≡ slice_set (cut b) n s
+  cut_put l = ext_get_or [] (cut (put b n s)) (slice_set (cut b) n s)
+      (length_cut (put b n s) ∙ ap count_in length_put ∙ sym (length_cut b) ∙ sym (length-set (cut b) n s))
+      (λ k h. each k (rw length_put at (rw length_cut at h)))
     where
-      each : (k : ℕ) → k < length (cut (put b n s)) → slice_index_or (cut (put b n s)) k [] ≡ slice_index_or (slice_set (cut b) n s) k []
-      each k h = cut_at (put b n s) k h ∙ elim (cases_eq k n) [
-        | inl e ↦ ap (sector_at (put b n s)) e ∙ put_same ∙ sym (ap (λ j. get_or (slice_set (cut b) n s) j []) e ∙ get_or-set_same (cut b) n s [] l)
-        | inr ne ↦ put_other k ne ∙ sym (cut_at b k (rw length_cut_put at h)) ∙ sym (get_or-set_other (cut b) n k s [] ne)
+      each : (k : ℕ) → k < count_in (length b) → slice_index_or (cut (put b n s)) k [] ≡ slice_index_or (slice_set (cut b) n s) k []
+      each k h = cut_at (put b n s) k (rw length_put h) ∙ elim (cases_eq k n) [
+        | inl e ↦ ap (sector_at (put b n s)) e ∙ put_same ∙ sym (ap (get_or (slice_set (cut b) n s) k) refl ∙ ap (λ j. get_or (slice_set (cut b) n s) j []) e ∙ get_or-set_same (cut b) n s [] (rw length_cut l))
+        | inr ne ↦ put_other k ne ∙ sym (cut_at b k h) ∙ sym (get_or-set_other (cut b) n k s [] ne)
       ]
+
+  -- and byte by byte
+  pub put_past : (k : ℕ) → 512 * n + 512 ≤ k → slice_index (put b n s) k ≡ slice_index b k
+  put_past k h =
+      let e : k ≡ k + 0 = omega arith in
+      ap (λ x. slice_index (put b n s) x) e ∙ sym (get_or-drop k (put b n s) 0 0) ∙ ap (λ l. slice_index l 0) (past k h) ∙ get_or-drop k b 0 0 ∙ ap (λ x. slice_index b x) (sym e)
 
 pub untouched_self : (s : List ℕ) → Untouched s s
 untouched_self s = (refl, refl)
@@ -98,7 +107,7 @@ untouched_onward s t u p q = (
 
 -- a write of a sector that counts: the image after it, and what it leaves of the row
 pub cut_written : (b : List ℕ) (n : ℕ) (s : List ℕ) → n < length (cut b) → length s ≡ 512 → cut (put b n s) ≡ slice_set (cut b) n s
-cut_written b n s h whole = cut_put b n s (within_cut b n h) whole h
+cut_written b n s h whole = cut_put b n s (within_cut b n h) whole (rw length_cut at h)
 
 pub put_untouched : (b : List ℕ) (n : ℕ) (s : List ℕ) → n < length (cut b) → length s ≡ 512 → Untouched b (put b n s)
 put_untouched b n s h whole =

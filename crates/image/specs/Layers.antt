@@ -1,8 +1,10 @@
 -- Sectors held over an image: which are held, and what the two show together.
-use Rattle.std.specs.Prelude.{◌≡◌, ℕ, ◌+◌, ◌*◌, ◌/◌, ◌%◌, ◌^◌, ◌<◌, ◌≤◌, Bool, true, false, cond, List, [], map, length, ◌==◌, slice_index_or}
-use Rattle.std.proofs.Common.{ap, ◌∙◌, arith}
-use Rattle.std.specs.List.{count_by, range_with_len}
-use Rattle.std.proofs.lemmas.List.FromFn.{length-map-range_with_len, get_or-map-range_with_len}
+use Rattle.std.specs.Prelude.{◌≡◌, ℕ, ◌+◌, ◌*◌, ◌/◌, ◌%◌, ◌^◌, ◌<◌, ◌≤◌, Bool, true, false, cond, List, [], map, length, ◌==◌, slice_index_or, refl}
+use Rattle.std.proofs.Common.{sym, ap, ◌∙◌, arith}
+use Rattle.std.specs.List.{count_by, sum_by, range_with_len}
+use Rattle.std.proofs.lemmas.List.FromFn.{length-range_with_len, length-map-range_with_len, get_or-map-range_with_len, sum_by-map-range_with_len_more}
+use Rattle.std.proofs.lemmas.List.{map-id}
+use Rattle.std.proofs.lemmas.List.Sums.{count_by-le-length}
 use Rattle.image.specs.Sectors.{Image, Sector, Shaped, Bytes, sector_at}
 use Rattle.image.specs.Cuts.{length_sector, bytes_sector}
 
@@ -13,6 +15,19 @@ has mask k = mask / 2 ^ k % 2 == 1
 -- how many of the numbers below n pass the test
 abbrev pub how_many : (ℕ → Bool) → ℕ → ℕ
 how_many test n = count_by test (range_with_len 0 n)
+
+pub how_many_none : (test : ℕ → Bool) → how_many test 0 ≡ 0
+how_many_none test = refl
+
+pub how_many_more : (test : ℕ → Bool) (n : ℕ) → how_many test (n + 1) ≡ how_many test n + cond (test n) 1 0
+how_many_more test n =
+    let f : ℕ → ℕ = λ k. cond (test k) 1 0 in
+    ap (sum_by f) (sym (map-id (range_with_len 0 (n + 1))))
+    ∙ sum_by-map-range_with_len_more f (λ k. k) 0 n n (omega arith)
+    ∙ ap (λ xs. sum_by f xs + f n) (map-id (range_with_len 0 n))
+
+pub how_many_le : (test : ℕ → Bool) (n : ℕ) → how_many test n ≤ n
+how_many_le test n = omega (arith, count_by-le-length test (range_with_len 0 n), length-range_with_len 0 n)
 
 -- what sector k shows: the held one where there is one, else that of the image below
 abbrev pub showing : (mask : ℕ) (cells : List ℕ) (below : Image) → ℕ → Sector

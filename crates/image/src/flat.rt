@@ -41,7 +41,7 @@ impl<'a> ImageStore for Flat<'a> {
         (self.bytes.len() / SECTOR).min(MOST)
     }
 
-    #[tactic(auto, using(crate::specs::Cuts::within_cut, crate::specs::Cuts::cut_at))]
+    #[tactic(auto, using(crate::specs::Cuts::within_cut, crate::specs::Cuts::cut_index))]
     fn read(&self, n: usize, buffer: &mut [u8]) -> Result<(), Refusal> {
         access(buffer.len(), n, self.count())?;
         get_sector(self.bytes, n, buffer);

@@ -13,9 +13,9 @@ use crate::store::{ImageStore, access};
 #[derive(Drop)]
 pub struct Overlay<S> {
     pub below: S,
-    // One bit for each sector that is held.
+    // One bit for each sector that is held: a rule of the project.
     written: u64,
-    // Not `[[u8; 512]; 64]`: it wants a ghost field, with which a pile of overlays on a flat store has no proof.
+    // Not `[[u8; 512]; 64]`: it needs a ghost field, and with it an overlay over an overlay on a flat store has no proof.
     cells: [u8; 32768],
 }
 

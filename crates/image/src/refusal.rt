@@ -16,6 +16,7 @@ pub enum Refusal {
 }
 
 impl Refusal {
+    // The rules number the conditions.
     /// The number and the place of this refusal.
     pub fn code(&self) -> (u32, u32)
         ensures { result ≡ code_of self.now }

@@ -60,6 +60,7 @@ pub fn fetch<S: ImageStore>(store: &S, n: usize) -> [u8; SECTOR]
     ensures inside { n < length (S.sectors store.now) → result ≡ slice_index_or (S.sectors store.now) n [] }
 {
     let mut buffer = [0u8; SECTOR];
+    // Where there is no such sector the buffer stays zeros.
     let _ = store.read(n, &mut buffer);
     buffer
 }
