@@ -8,6 +8,7 @@ ghost use Rattle.image.specs.Refusals.{access};
 use crate::refusal::Refusal;
 use crate::rows::{get_sector, is_row, put_sector};
 use crate::store::{ImageStore, access};
+use crate::{MOST, SECTOR};
 
 /// The sectors of the store below, with those written here in place of the old ones.
 #[derive(Drop)]
@@ -16,7 +17,7 @@ pub struct Overlay<S> {
     // One bit for each sector that is held: a rule of the project.
     written: u64,
     // Not `[[u8; 512]; 64]`: it needs a ghost field, and with it an overlay over an overlay on a flat store has no proof.
-    cells: [u8; 32768],
+    cells: [u8; SECTOR * MOST],
 }
 
 impl<S: ImageStore> ImageStore for Overlay<S> {
@@ -70,7 +71,7 @@ impl<S: ImageStore> Overlay<S> {
         Overlay {
             below,
             written: 0,
-            cells: [0; 32768],
+            cells: [0; SECTOR * MOST],
         }
     }
 
