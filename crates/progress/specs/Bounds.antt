@@ -34,6 +34,7 @@ ceiling Ended point = (point + 1) * 1048576
 pub record Bounded (p : Progress) : Type 0 where
   pub sum : p.judged + p.forgone + H.waiting (condition_of p.condition) ≡ p.passed
   pub bad : p.unsafe_judged ≤ p.judged
+  -- every run from `begun` on has it: `begun` does, and each move keeps it
   pub first : is_none p.first ≡ (p.unsafe_judged == 0)
   pub room : p.passed + ahead p.condition p.states p.rank ≤ ceiling p.condition p.point
   pub here : p.point ≤ p.last

@@ -9,18 +9,7 @@ impl Progress {
     pub fn new() -> Progress
         ensures { result ≡ begun }
     {
-        Progress {
-            condition: Condition::Empty,
-            last: 0,
-            point: 0,
-            rank: 0,
-            states: 0,
-            judged: 0,
-            unsafe_judged: 0,
-            forgone: 0,
-            passed: 0,
-            first: None,
-        }
+        Progress::default()
     }
 
     /// A recording is loaded; its last crash point is `last`.
@@ -74,6 +63,7 @@ impl Progress {
     pub fn forgo(&mut self, waiting: u64)
         ensures { self.new ≡ left waiting self.old }
     {
+        // A number, as in the rules: waiting is 1 in Waiting and 0 else.
         let rest = self.states.saturating_sub(self.rank.saturating_add(1));
         self.condition = Condition::Left;
         self.forgone = self.forgone.saturating_add(rest.saturating_add(waiting));

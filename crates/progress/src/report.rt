@@ -30,11 +30,12 @@ impl Verdict {
     pub fn code(&self) -> u32
         ensures { result ≡ code_of self.now }
     {
+        // The rules number the verdicts.
         *self as u32
     }
 }
 
-// No derive writes the verdicts in small letters.
+// By hand: a derived text would come with `Error`, and a verdict is no error.
 impl fmt::Display for Verdict {
     fn fmt<W: fmt::Write>(&self, f: &mut fmt::Formatter<W>) -> fmt::Result {
         f.write_str(match self {
@@ -56,6 +57,7 @@ pub struct Report {
     pub unsafe_judged: u64,
     pub forgone: u64,
     pub passed: u64,
+    // Numbers, and no Option: the rules' report has 0 and 0 where no state was judged unsafe.
     pub point: usize,
     pub rank: u64,
 }
@@ -78,6 +80,7 @@ impl Progress {
     pub fn report(&self) -> Report
         ensures { (base : Image) (R : Recording) → report_seen result ≡ report_on (view_of base R self.now) }
     {
+        // The rules' report has 0 and 0 where there is none.
         let (point, rank) = self.first.unwrap_or((0, 0));
         Report {
             verdict: self.verdict(),

@@ -30,7 +30,7 @@ impl Step {
         sector >= self.first && sector - self.first < self.contents.len()
     }
 
-    /// What the step writes to a sector; nothing where it does not write it.
+    /// What the step writes to a sector that it covers.
     fn written(&self, sector: usize) -> &[u8]
         ensures { result.now ≡ content (step_effect self.now) sector }
     {
@@ -64,6 +64,7 @@ impl Trace {
     pub fn step(&self, k: usize) -> Option<&Step>
         ensures { MatchOption result (HasNoEntry self.now k) (λ step. (step.now ≡ step_at self.now.steps.items k) × (0 < k) × (k ≤ length self.now.steps.items)) }
     {
+        // An idle step cannot be lent where there is none: a static holds nothing that is dropped.
         self.steps.get(k.checked_sub(1)?)
     }
 

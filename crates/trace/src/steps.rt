@@ -2,7 +2,7 @@
 use mark::Mark;
 
 /// The new contents of the sectors that an entry writes.
-#[derive(Debug, Drop)]
+#[derive(Clone, Debug, Drop)]
 pub enum Contents {
     /// So many sectors of zeros.
     Zeros(usize),
@@ -11,7 +11,7 @@ pub enum Contents {
 }
 
 /// What an entry does: it writes contents to the sectors from `first` on, and says a mark.
-#[derive(Debug, Drop)]
+#[derive(Clone, Debug, Drop)]
 pub struct Step {
     pub flush: bool,
     pub fua: bool,
