@@ -60,6 +60,13 @@ impl Tree {
         Tree { nodes }
     }
 
+    /// All nodes, in the order of their numbers.
+    pub fn nodes(&self) -> &[Node; NODES]
+        ensures { result.now ≡ self.now.nodes }
+    {
+        &self.nodes
+    }
+
     /// Node `k`; past the last node there is none.
     pub fn node(&self, k: usize) -> Node
         ensures { result ≡ slice_index_or self.now.nodes k Absent }

@@ -1,5 +1,7 @@
 //! The nodes of a tree.
 
+use thiserror::Error;
+
 /// What stands under a node's number.
 #[derive(Clone, Copy, PartialEq, Eq, Debug, Default)]
 pub enum Node {
@@ -10,5 +12,6 @@ pub enum Node {
 }
 
 /// A node that the rules do not allow where it was to stand.
-#[derive(Clone, Copy, PartialEq, Eq, Debug)]
+#[derive(Clone, Copy, PartialEq, Eq, Debug, Error)]
+#[error("the rules do not allow the node here")]
 pub struct Misplaced;

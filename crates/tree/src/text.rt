@@ -5,6 +5,7 @@ ghost use Rattle.tree.specs.Texts.{written};
 use crate::node::Node;
 use std::fmt;
 
+// By hand: the clause below says which text, and a derived one has none.
 impl fmt::Display for Node {
     ghost output = { λ n. Some (written n) };
 
