@@ -61,13 +61,13 @@ leave_room value ks i stay h l e =
     omega arith
 
 -- the contents are those of the recording
-content_written : (d : Recording) (s j : ℕ) → content_at (get_or d.base s []) d.effects s j ≡ written d s j
-content_written d s zero = refl
-content_written d s (suc i) = refl
+pub content_written : (d : Recording) (s j : ℕ) (x : Sector) → x ≡ get_or d.base s [] → content_at x d.effects s j ≡ written d s j
+content_written d s zero x e = e
+content_written d s (suc i) x e = refl
 
 firsts_candidates : (d : Recording) (p s : ℕ) → firsts (content_at (get_or d.base s []) d.effects s) (numbers d p s) ≡ candidate_numbers d p s
 unfolding candidate_numbers
-firsts_candidates d p s = λ i. firsts (λ j. content_written d s j i) (numbers d p s)
+firsts_candidates d p s = λ i. firsts (λ j. content_written d s j (get_or d.base s []) refl i) (numbers d p s)
 
 -- the numbers left are those of the candidates
 pub left_candidates : (d : Recording) (p s : ℕ) (base : Sector) (all left : List ℕ) → base ≡ get_or d.base s [] → all ≡ numbers d p s → left ≡ firsts (content_at base d.effects s) all → left ≡ candidate_numbers d p s

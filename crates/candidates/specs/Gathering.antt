@@ -17,8 +17,8 @@ FirstAbove count p q = (q ≤ p) × (8 < count q) × ((k : ℕ) → k < q → co
 abbrev pub NoneAbove : (ℕ → ℕ) → (p : ℕ) → Type 0
 NoneAbove count p = (q : ℕ) → q ≤ p → count q ≤ 8
 
--- The history of a key walks through one list for each point: what it holds at p, or the first point up to there whose
--- list is longer than 8.
+-- The history of a key is one list at each point: what it is at p, or the first point up to there at which it is longer
+-- than 8.
 abbrev pub Walked : {X : Type 0} → (ℕ → List X) → (p : ℕ) → Result (Few X) Refusal → Type 0
 Walked at p (Ok few) = NoneAbove (λ q. length (at q)) p × (listed few ≡ at p)
 Walked at p (Err SectorNumber) = ⊥

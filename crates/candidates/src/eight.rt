@@ -1,17 +1,19 @@
 //! At most eight values.
 ghost use Rattle.std.specs.Prelude.{◌≡◌, ◌≤◌, ⊤, length};
 
+use history::CELLS;
 use std::alloc::AllocError;
 
 /// At most eight values, in order. (`arrayvec::ArrayVec<T, 8>` is not `Copy` and asks for a
-/// default value: no array of such lists could be kept.)
+/// default value: no `Copy` array could hold such lists.)
 pub struct Few<T> {
-    pub(crate) cells: [T; 8],
+    pub(crate) cells: [T; CELLS],
     pub(crate) used: usize,
     ghost size: { length cells ≡ 8 },
     ghost most: { used ≤ 8 },
 }
 
+// By hand: no copy is derived of a type with a parameter and an invariant.
 impl<T: Copy> Copy for Few<T> {}
 
 impl<T: Copy> Clone for Few<T> {

@@ -3,13 +3,14 @@ ghost use Rattle.std.specs.Prelude.{◌≡◌, ℕ, ◌+◌, ◌<◌, ◌≤◌,
 ghost use Rattle.candidates.specs.Lists.{listed};
 
 use crate::eight::Few;
+use history::CELLS;
 
 impl<T: Copy> Few<T> {
     /// No values; `fill` stands in the free cells.
     pub fn empty(fill: T) -> Few<T>
         ensures { listed result ≡ [] }
     {
-        let cells = [fill; 8];
+        let cells = [fill; CELLS];
         Few { cells, used: 0 }
     }
 
@@ -18,7 +19,7 @@ impl<T: Copy> Few<T> {
         requires { length values.now ≤ 8 }
         ensures { listed result ≡ values.now }
     {
-        let mut cells = [fill; 8];
+        let mut cells = [fill; CELLS];
         cells[..values.len()].copy_from_slice(values);
         Few {
             cells,

@@ -20,7 +20,7 @@ pub fn walk<T: Copy, F: Fn(usize) -> Turn<T>>(
 {
     let mut cells = [start; CELLS];
     let mut history = History::start(&mut cells, start);
-    // Entries are named by number, from 1; what one does is asked for by its number.
+    // By the point before each entry: the history at a point is what the next entry changes.
     for k in 0..point {
         apply(&mut history, turn(k + 1)).map_err(|_| Refusal::Candidates { point: k + 1 })?;
     }
