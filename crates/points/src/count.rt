@@ -47,7 +47,7 @@ fn check_nodes(trace: &Trace, point: usize) -> Result<(), Refusal>
     Ok(())
 }
 
-// A recording is named by its trace and its base: callers hold the two apart, and would make a
+// A recording is named by its trace and its base: the run holds the two apart, and would make a
 // pair of them for one call.
 
 /// The number of states of a point. A sector or a node with more than 8 candidates, at the point
