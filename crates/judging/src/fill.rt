@@ -22,10 +22,10 @@ impl Values {
     pub fn at(trace: &Trace, tree: &Tree, point: usize) -> Result<Values, Refusal>
         ensures { Valued tree.now.nodes (marks_of trace.now) point result }
     {
-        let Values { mut nodes } = Values::none();
-        for n in 0..NODES {
-            nodes[n] = node_values(trace, tree.node(n), n, point)?;
+        let mut values = Values::none();
+        for (n, few) in values.nodes.iter_mut().enumerate() {
+            *few = node_values(trace, tree.node(n), n, point)?;
         }
-        Ok(Values { nodes })
+        Ok(values)
     }
 }

@@ -31,6 +31,7 @@ impl Values {
     pub fn judge(&self, tree: &Tree) -> Judgement
         ensures { code_of result ≡ judgement (values_in self.now) (a_tree tree.now.nodes) }
     {
+        // Nodes are named by a u8; there are 16.
         (0..NODES as u8)
             .find(|node| !self.admits(tree, usize::from(*node)))
             .map_or(Judgement::Admitted, |node| Judgement::Unadmitted { node })
