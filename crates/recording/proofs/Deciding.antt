@@ -32,12 +32,12 @@ from_sector k x g d = ap (λ o. or_else o (cond (data_cut x) (Some (Incomplete k
 -- a sector that is taken keeps the rules
 pub well_formed : (k : ℕ) (x : List ℕ) → sector_fault k x ≡ None → malformed x ≡ false
 well_formed k x e = elim (cases_Bool (malformed x)) [
-  | inl m ↦ absurd (
+  | inl m ↦
       let w = whole_sector k x e in
       let t : sector_fault k x ≡ Some (Form k) =
       ap (λ b. cond b (Some (Incomplete k)) (cond (malformed x) (Some (Form k)) None)) (le-ltb (length x) 512 w)
       ∙ ap (λ b. cond b (Some (Form k)) None) m in
-      cc)
+      cc
   | inr m ↦ m
 ]
 

@@ -8,8 +8,9 @@ use Rattle.recording.specs.declared.entry.Flags.{Flags}
 use Rattle.recording.specs.Numbers.{all_zero}
 use Rattle.recording.specs.Items.{Item, write, discard, flush, mark, flags_of, worth, sector_of, sectors_of, bits_of, text_of, data_of, Formed}
 use Rattle.recording.specs.Layout.{sector_layout, entry_layout}
-use Rattle.recording.specs.Entries.{sector_in, sectors_in, bits_in, size_in, text_in, mark_flawed, text_flawed, flags_flawed, fields_flawed, malformed, data_in, item_of, item_in}
+use Rattle.recording.specs.Entries.{sector_in, sectors_in, bits_in, size_in, text_in, mark_flawed, text_flawed, flags_flawed, fields_flawed, malformed, data_in, item_in}
 use Rattle.recording.proofs.Sectoring.{SectorReads, sector_reads}
+use Rattle.recording.proofs.Made.{made}
 
 -- the flags of an entry
 flags_for : Item → Flags
@@ -100,11 +101,8 @@ flawless (mark text) f =
     (or_from (ltb 480 (length text)) (not (eqb (length text) 0) && false) (le-ltb 480 (length text) f.0) (and_right (not (eqb (length text) 0)) false refl)) refl
 
 -- the entry that is made of an entry's own fields
-remade : ℕ → ℕ → Flags → List ℕ → List ℕ → Item
-remade sector sectors flags text content = cond flags.mark (mark text) (item_of sector sectors flags content)
-
-own : (e : Item) → Formed e → remade (sector_of e) (sectors_of e) (flags_for e) (text_of e) (data_of e) ≡ e
-unfolding remade flags_for
+own : (e : Item) → Formed e → made (sector_of e) (sectors_of e) (flags_for e) (text_of e) (data_of e) ≡ e
+unfolding made flags_for
 own (write sector fl fua meta content) f =
     let e = whole_sectors content f.1.0 f.1.3 in
     let h = f.1.1 in
@@ -166,14 +164,14 @@ module _ (e : Item) (f : Formed e) (r x : List ℕ) (laid : x ≡ entry_layout e
       let n : 512 + 512 * data_in x - 512 ≡ length (data_of e) = omega (arith, size) in
       ap (λ i. take i (drop 512 x)) n ∙ ap (take (length (data_of e))) reads.rest ∙ take_at (data_of e) r (length (data_of e)) refl
 
-  made : item_in x ≡ e
-  unfolding remade
-  made =
-      ap (λ n. remade n (sectors_in x) (flags_of (bits_in x)) (text_in x) (between 512 (512 + 512 * data_in x) x)) reads.sector
-      ∙ ap (λ n. remade (sector_of e) n (flags_of (bits_in x)) (text_in x) (between 512 (512 + 512 * data_in x) x)) reads.sectors
-      ∙ ap (λ n. remade (sector_of e) (sectors_of e) n (text_in x) (between 512 (512 + 512 * data_in x) x)) flags
-      ∙ ap (λ n. remade (sector_of e) (sectors_of e) (flags_for e) n (between 512 (512 + 512 * data_in x) x)) reads.text
-      ∙ ap (λ n. remade (sector_of e) (sectors_of e) (flags_for e) (text_of e) n) content
+  same_item : item_in x ≡ e
+  unfolding made
+  same_item =
+      ap (λ n. made n (sectors_in x) (flags_of (bits_in x)) (text_in x) (between 512 (512 + 512 * data_in x) x)) reads.sector
+      ∙ ap (λ n. made (sector_of e) n (flags_of (bits_in x)) (text_in x) (between 512 (512 + 512 * data_in x) x)) reads.sectors
+      ∙ ap (λ n. made (sector_of e) (sectors_of e) n (text_in x) (between 512 (512 + 512 * data_in x) x)) flags
+      ∙ ap (λ n. made (sector_of e) (sectors_of e) (flags_for e) n (between 512 (512 + 512 * data_in x) x)) reads.text
+      ∙ ap (λ n. made (sector_of e) (sectors_of e) (flags_for e) (text_of e) n) content
       ∙ own e f
 
   pub entry_reads : EntryReads e r x
@@ -184,6 +182,6 @@ module _ (e : Item) (f : Formed e) (r x : List ℕ) (laid : x ≡ entry_layout e
         whole = omega arith;
         formed = or_from (fields_flawed (sector_in x) (sectors_in x) (bits_in x) (size_in x)) (not (all_zero (between (32 + size_in x) 512 x))) sound (not_from_true (all_zero (between (32 + size_in x) 512 x)) reads.zeros);
         complete = omega (arith, size);
-        item = made;
+        item = same_item;
         rest = sym (drop-drop (512 * data_in x) 512 x) ∙ ap (drop (512 * data_in x)) reads.rest ∙ drop_at (data_of e) r (512 * data_in x) size;
       }

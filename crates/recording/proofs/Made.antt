@@ -13,7 +13,7 @@ use Rattle.recording.specs.Entries.{sector_in, sectors_in, bits_in, text_in, dat
 use Rattle.recording.specs.Reading.{HeaderAt, item_made, item_seen, LiesFrom, Placed, or_else, sector_fault, entry_fault}
 
 -- the entry of a header
-made : ℕ → ℕ → Flags → List ℕ → List ℕ → Item
+unfoldable pub made : ℕ → ℕ → Flags → List ℕ → List ℕ → Item
 made sector sectors flags text content = cond flags.mark (mark text) (item_of sector sectors flags content)
 
 pub made_in : (h : Header) (x content : List ℕ) → HeaderAt h x → content ≡ take (512 + 512 * data_in x - 512) (drop 512 x) → item_made h content ≡ item_in x

@@ -1,12 +1,13 @@
 -- A reader on its way through a whole recording.
-use Rattle.std.proofs.Common.{◌≡◌, ℕ, ◌<◌, List, [], Some, None, Ok, Err, Option, Result, sym, refl, ap, ◌∙◌, subst}
+use Rattle.std.proofs.Common.{◌≡◌, ℕ, ◌<◌, true, false, List, [], is_some, Some, None, Ok, Err, Option, Result, sym, refl, ap, ◌∙◌, subst, arith}
 use Rattle.image.specs.Sectors.{Bytes}
 use Rattle.recording.specs.declared.refusal.Refusal.{Refusal}
+use Rattle.recording.specs.declared.entry.Entry.{Entry}
 use Rattle.recording.specs.declared.entry.Reader.{Reader}
 use Rattle.recording.specs.Items.{Item}
 use Rattle.recording.specs.Heads.{count_in}
 use Rattle.recording.specs.Entries.{item_in}
-use Rattle.recording.specs.Reading.{ahead, reader_fault, Moved, Opening}
+use Rattle.recording.specs.Reading.{ahead, reader_fault, Moved, Opening, Stepping}
 use Rattle.recording.specs.Recorded.{prepend, recorded, remaining, counted, Validated}
 use Rattle.recording.proofs.Wholly.{whole_taken, validated}
 use Rattle.recording.proofs.Remaining.{remaining_whole, remaining_step, remaining_declined, remaining_none}
@@ -28,12 +29,21 @@ fault_prepend e (Err f) = refl
 pub started : (s : List ℕ) (r : Reader) → Opening s (Ok r) → Midway s r
 started s r o = let w = remaining_whole s r o in record { total = o.3; same = ap fault_of w.0 }
 
-pub stepped : (s : List ℕ) (r t : Reader) → Midway s r → 0 < r.left → reader_fault r ≡ None → Moved r t → Midway s t
+stepped : (s : List ℕ) (r t : Reader) → Midway s r → 0 < r.left → reader_fault r ≡ None → Moved r t → Midway s t
 stepped s r t m h f v =
     record {
       total = v.total ∙ m.total;
       same = sym (fault_prepend (item_in (ahead r)) (remaining t)) ∙ ap fault_of (sym (remaining_step r t h f v)) ∙ m.same;
     }
+
+-- the same by whether an entry is given
+pub going : (s : List ℕ) (r t : Reader) (o : Option Entry) → is_some o ≡ true → Stepping r t (Ok o) → Midway s r → Midway s t × (t.left < r.left)
+going s r t None h p m = let z : false ≡ true = h in cc
+going s r t (Some e) h p m = (stepped s r t m p.0 p.1 p.4, let a = p.0 in let b = p.4.left in omega arith)
+
+pub ended : (r t : Reader) (o : Option Entry) → is_some o ≡ false → Stepping r t (Ok o) → (r.left ≡ 0) × (ahead r ≡ []) × (t ≡ r)
+ended r t None h p = p
+ended r t (Some e) h p = let z : true ≡ false = h in cc
 
 is_err : (o : Result (List Item) Refusal) (f : Refusal) → fault_of o ≡ Some f → o ≡ Err f
 is_err (Ok es) f e = cc

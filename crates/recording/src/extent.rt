@@ -4,6 +4,7 @@ ghost use Rattle.recording.specs.Items.{sector_of, sectors_of, data_of};
 ghost use Rattle.recording.specs.Reading.{item_seen};
 
 use crate::entry::{Entry, Header};
+use image::SECTOR;
 
 /// So many sectors, from the first on.
 #[derive(Clone, Copy, PartialEq, Eq, Debug)]
@@ -27,14 +28,9 @@ impl<'a> Header<'a> {
         ensures first { result.first ≡ self.now.sector }
         ensures sectors { result.sectors ≡ self.now.sectors }
     {
-        let Header {
-            sector,
-            sectors,
-            ..
-        } = *self;
         Extent {
-            first: sector,
-            sectors,
+            first: self.sector,
+            sectors: self.sectors,
         }
     }
 
@@ -52,13 +48,13 @@ impl<'a> Entry<'a> {
         ensures first { result.first ≡ sector_of (item_seen self.now) }
         ensures sectors { result.sectors ≡ sectors_of (item_seen self.now) }
     {
-        // A length becomes a count: the cast is proved to lose no bit.
+        // No `From` leads from `usize` to `u64`; the cast is proved to lose no bit.
         let (first, sectors) = match *self {
             Entry::Write {
                 sector,
                 content,
                 ..
-            } => (sector, (content.len() / 512) as u64),
+            } => (sector, (content.len() / SECTOR) as u64),
             Entry::Discard {
                 sector,
                 sectors,

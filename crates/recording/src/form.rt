@@ -6,6 +6,7 @@ ghost use Rattle.recording.specs.Reading.{FieldsIn};
 
 use crate::entry::Flags;
 use crate::fields::{number64, zeros};
+use image::SECTOR;
 
 /// The numbers of an entry's sector.
 #[derive(Clone, Copy)]
@@ -17,6 +18,7 @@ pub struct Fields {
 }
 
 impl Fields {
+    // A slice: the one caller has what is left of the recording, and has asked for its length.
     /// The numbers at the front of `rest`; none where the sector there breaks a rule.
     pub fn read(rest: &[u8]) -> Option<Fields>
         requires { 512 ≤ length rest.now }
@@ -26,10 +28,10 @@ impl Fields {
             sector: number64(rest, 0),
             sectors: number64(rest, 8),
             bits: number64(rest, 16),
-            // A length: the cast is proved to lose no bit, and try_from would ask for an answer.
+            // A length, and no `From` leads from `u64` to `usize`; the cast is proved to lose no bit.
             size: number64(rest, 24) as usize,
         };
-        if fields.are_flawed() || !zeros(&rest[32 + fields.size..512]) {
+        if fields.are_flawed() || !zeros(&rest[32 + fields.size..SECTOR]) {
             return None;
         }
         Some(fields)

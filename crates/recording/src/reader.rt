@@ -7,23 +7,24 @@ use crate::entry::{Entry, Found, Header, Reader};
 use crate::fields::{field, number64, zeros};
 use crate::form::Fields;
 use crate::refusal::Refusal;
+use image::SECTOR;
 
 /// Whether the recording is shorter than a sector, or its head is wrong.
 fn is_head_faulty(bytes: &[u8]) -> bool
     ensures { result ≡ head_faulty bytes.now }
 {
-    bytes.len() < 512
+    bytes.len() < SECTOR
         || field(bytes, 0) != *b"rhswfsj\0"
         || number64(bytes, 8) != 1
         || u32::from_le_bytes(field(bytes, 24)) != 512
-        || !zeros(&bytes[28..512])
+        || !zeros(&bytes[28..SECTOR])
 }
 
 /// The header of entry `number`, at the front of `rest`.
 fn header_at<'a>(rest: &'a [u8], number: u64) -> Result<Header<'a>, Refusal>
     ensures { HeaderFinding number rest.now result }
 {
-    if rest.len() < 512 {
+    if rest.len() < SECTOR {
         return Err(Refusal::Incomplete { entry: number });
     }
     let fields = Fields::read(rest).ok_or(Refusal::Form { entry: number })?;
@@ -36,7 +37,7 @@ fn header_at<'a>(rest: &'a [u8], number: u64) -> Result<Header<'a>, Refusal>
 }
 
 /// The entry of a header, with its data; its sector lies at `start`.
-// Taking header and flags apart first would name each field twice.
+// With header and flags taken apart first it would be longer than 40 lines.
 fn entry_of<'a>(header: Header<'a>, content: &'a [u8], start: usize) -> Entry<'a>
     requires { start + 512 < 2 ^ 64 }
     ensures item { item_seen result ≡ item_made header.entry content.now }
@@ -70,7 +71,7 @@ fn entry_of<'a>(header: Header<'a>, content: &'a [u8], start: usize) -> Entry<'a
         fua: header.flags.fua,
         metadata: header.flags.metadata,
         content,
-        place: start + 512,
+        place: start + SECTOR,
     }
 }
 
@@ -81,14 +82,14 @@ fn entry_at<'a>(rest: &'a [u8], start: usize, number: u64) -> Result<Found<'a>, 
     ensures laid { FindingLaid rest.now result }
 {
     let header = header_at(rest, number)?;
-    // A count is compared as a length: the cast is proved to lose no bit.
+    // No `From` leads from `u64` to `usize`; the cast is proved to lose no bit.
     let sectors = header.data_sectors() as usize;
-    let whole = (rest.len() - 512) / 512;
+    let whole = (rest.len() - SECTOR) / SECTOR;
     if sectors > whole {
         return Err(Refusal::Incomplete { entry: number });
     }
-    let size = 512 + sectors * 512;
-    let entry = entry_of(header, &rest[512..size], start);
+    let size = SECTOR + sectors * SECTOR;
+    let entry = entry_of(header, &rest[SECTOR..size], start);
     Ok(Found { entry, size })
 }
 
@@ -106,7 +107,7 @@ impl<'a> Reader<'a> {
         }
         Ok(Reader {
             bytes,
-            place: 512,
+            place: SECTOR,
             total,
             left: total,
         })

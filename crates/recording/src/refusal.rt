@@ -25,6 +25,7 @@ pub enum Refusal {
 }
 
 impl Refusal {
+    // The rules number the conditions.
     /// The number and the place of this refusal.
     pub fn code(&self) -> (u64, u64)
         ensures { result ≡ code_of self.now }

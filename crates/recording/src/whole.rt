@@ -12,6 +12,6 @@ pub fn validate(bytes: &[u8]) -> Result<u64, Refusal>
     ensures laws { RecordingLaws }
 {
     let mut reader = Reader::open(bytes)?;
-    while let Some(_entry) = reader.next()? {}
+    while reader.next()?.is_some() {}
     Ok(reader.total())
 }

@@ -1,12 +1,10 @@
 -- The reader's answers, one after the other, are those to the whole recording.
-use Rattle.std.proofs.Common.{◌≡◌, Ok, Option, sym, ap, ◌∙◌, subst, arith}
+use Rattle.std.proofs.Common.{◌≡◌, Ok, sym, ap, ◌∙◌, arith, rules}
 use Rattle.std.proofs.lemmas.Result.{err_from_is_err_and}
 use Rattle.image.specs.Sectors.{Bytes}
-use Rattle.recording.specs.declared.entry.Entry.{Entry}
-use Rattle.recording.specs.Reading.{Stepping}
 use Rattle.recording.specs.Recorded.{counted}
 use Rattle.recording.proofs.Wholly.{laws}
-use Rattle.recording.proofs.Midway.{started, stepped, declined, finished, answered}
+use Rattle.recording.proofs.Midway.{started, going, ended, declined, finished, answered}
 use Rattle.recording.proofs.Remaining.{unopened}
 use Rattle.recording.proofs.whole.validate.Goals as goal
 
@@ -18,29 +16,28 @@ returns-in_err-reader c =
     let e = sym (ap counted (unopened s _ c.in_err-reader.ensures)) in
     rw (p.1, p.2) (record { value = e; laid = answered s _ bs e; laws = laws })
 
-pub loop-entry-init : goal.loop-entry-init
-loop-entry-init c = started c.args.bytes.now c.in_ok-reader.reader c.in_ok-reader.ensures
+pub loop-init : goal.loop-init
+loop-init c = started c.args.bytes.now c.in_ok-reader.reader c.in_ok-reader.ensures
 
-pub returns-in_err-_entry : goal.returns-in_err-_entry
-returns-in_err-_entry c =
+pub returns-in_err-next : goal.returns-in_err-next
+returns-in_err-next c =
     let s = c.args.bytes.now in
     let bs : Bytes s = λ j. omega (arith, c.type_inv.bytes j) in
-    let p = err_from_is_err_and c.from_residual-in_err-_entry.result c.from_residual-in_err-_entry.ensures.1 in
-    let e = sym (ap counted (declined s c.loop-entry.reader _ c.loop-entry.invariant c.in_err-_entry.ensures.step.0)) in
+    let p = err_from_is_err_and c.from_residual-in_err-next.result c.from_residual-in_err-next.ensures.1 in
+    let e = sym (ap counted (declined s c.loop.reader _ c.loop.invariant c.in_err-next.ensures.step.0)) in
     rw (p.1, p.2) (record { value = e; laid = answered s _ bs e; laws = laws })
 
-pub loop-entry-preserved : goal.loop-entry-preserved
-loop-entry-preserved c =
-    let P : Option Entry → Type 0 = λ o. Stepping c.loop-entry.reader c.next.new.self (Ok o) in
-    let t = subst P c.in-Some.is c.in_ok-_entry.ensures.step in
-    stepped c.args.bytes.now c.loop-entry.reader c.next.new.self c.loop-entry.invariant t.0 t.1 t.4
+pub loop-smaller : goal.loop-smaller
+loop-smaller c = (going c.args.bytes.now c.loop.reader c.next.new.self c.in_ok-next.field-0 (search rules) c.in_ok-next.ensures.step c.loop.invariant).1
+
+pub loop-preserved : goal.loop-preserved
+loop-preserved c = (going c.args.bytes.now c.loop.reader c.next.new.self c.in_ok-next.field-0 (search rules) c.in_ok-next.ensures.step c.loop.invariant).0
 
 pub returns : goal.returns
 returns c =
     let s = c.args.bytes.now in
     let bs : Bytes s = λ j. omega (arith, c.type_inv.bytes j) in
-    let P : Option Entry → Type 0 = λ o. Stepping c.loop-entry.reader c.next.new.self (Ok o) in
-    let t = subst P c.in_default.is c.in_ok-_entry.ensures.step in
-    let n : c.total.result ≡ c.loop-entry.reader.total = c.total.ensures ∙ ap (λ r. r.total) t.2 in
-    let e = ap Ok n ∙ finished s c.loop-entry.reader bs c.loop-entry.invariant t.0 t.1 in
+    let t = ended c.loop.reader c.next.new.self c.in_ok-next.field-0 (search rules) c.in_ok-next.ensures.step in
+    let n : c.total.result ≡ c.loop.reader.total = c.total.ensures ∙ ap (λ r. r.total) t.2 in
+    let e = ap Ok n ∙ finished s c.loop.reader bs c.loop.invariant t.0 t.1 in
     record { value = e; laid = answered s (Ok c.total.result) bs e; laws = laws }

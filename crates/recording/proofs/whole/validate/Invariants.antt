@@ -1,8 +1,8 @@
 use Rattle.recording.proofs.Midway.{Midway}
 use Rattle.recording.proofs.whole.validate.Given as goal
 
-abbrev pub invariant-loop-entry : goal.invariant-loop-entry
-invariant-loop-entry l = Midway l.bytes l.reader
+abbrev pub invariant-loop : goal.invariant-loop
+invariant-loop l = Midway l.bytes l.reader
 
-abbrev pub decreases-loop-entry : goal.decreases-loop-entry
-decreases-loop-entry l = l.reader.left
+abbrev pub decreases-loop : goal.decreases-loop
+decreases-loop l = l.reader.left
