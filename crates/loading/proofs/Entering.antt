@@ -7,13 +7,14 @@ use Rattle.mark.specs.declared.mark.Mark.TheVariants.{Comment}
 use Rattle.mark.specs.Found.{mark_of}
 use Rattle.recording.specs.declared.refusal.Refusal as R
 use Rattle.recording.specs.declared.refusal.Refusal.TheVariants.{Incomplete, Form, Trailing}
+use Rattle.recording.specs.declared.entry.Entry.{Entry}
 use Rattle.recording.specs.declared.entry.Flags.{Flags}
 use Rattle.recording.specs.declared.entry.Header.{Header}
 use Rattle.recording.specs.declared.entry.Reader.{Reader}
 use Rattle.recording.specs.Refusals as RC
 use Rattle.recording.specs.Items.{Item, write, discard, flush, mark, flags_of}
 use Rattle.recording.specs.Entries.{sector_in, sectors_in, bits_in, text_in, sector_cut, malformed, data_in, data_cut, item_in, rest_of}
-use Rattle.recording.specs.Reading.{ahead, next_number, HeaderAt, sector_fault, entry_fault, end_fault, reader_fault, Moved, or_else}
+use Rattle.recording.specs.Reading.{ahead, next_number, HeaderAt, sector_fault, entry_fault, end_fault, reader_fault, Moved, Stepping, or_else}
 use Rattle.recording.proofs.Made.{whole_sector}
 use Rattle.recording.proofs.Deciding.{well_formed}
 use Rattle.recording.proofs.Remaining.{numbered, moved_ahead}
@@ -66,10 +67,10 @@ by_sector n k used count x f h e = elim (cases_Bool (sector_cut x)) [
         let v = ap (λ b. cond b (Some (Form k)) None) t in
         let q : Form k ≡ f = cc in
         one n k used count x h ∙ ap (λ b. cond b (Err (7, k)) (cond (malformed x) (Err (8, k)) (tail1 n k used count x))) c ∙ ap (λ b. cond b (Err (8, k)) (tail1 n k used count x)) t ∙ ap (λ g. Err (RC.code_of g)) q
-    | inr m ↦ absurd (
+    | inr m ↦
         let w = ap (λ b. cond b (Some (Incomplete k)) (cond (malformed x) (Some (Form k)) None)) c in
         let v = ap (λ b. cond b (Some (Form k)) None) m in
-        cc)
+        cc
   ]
 ]
 
@@ -237,9 +238,10 @@ mark_read x used count m a =
     by_value (flags_of (bits_in x)).mark (mark_of (text_in x)) m a.marked
     ∙ sym (marked_item (flags_of (bits_in x)).mark (eqb (sectors_in x) 0) (flags_of (bits_in x)).discard (sector_in x) (sectors_in x) (flags_of (bits_in x)) (text_in x) (between 512 (512 + 512 * data_in x) x))
 
--- HOW MUCH DATA the entry has.
-pub header_data : (h : Header) (x : List ℕ) → HeaderAt h x → cond h.flags.discard 0 h.sectors ≡ data_in x
-header_data h x a = ap (λ n. cond h.flags.discard 0 n) a.1 ∙ ap (λ (f : Flags). cond f.discard 0 (sectors_in x)) a.2
+-- where an entry is left, the reader gives one
+pub given : (r t : Reader) (o : Option Entry) → 0 < r.left → Stepping r t (Ok o) → is_some o ≡ true
+given r t None l p = let z = p.0 in absurd (omega arith)
+given r t (Some e) l p = refl
 
 pub asked_same : (r : Reader) (h : Header) (k used count : ℕ) (m : Mark) → HeaderAt h (ahead r) → k ≡ next_number r → Ok m ≡ answered h k used count → Ok m ≡ asked_of (ahead r) (next_number r) used count
 asked_same r h k used count m a ek e = e ∙ ap (λ j. answered h j used count) ek ∙ header_asked h (ahead r) (next_number r) used count a

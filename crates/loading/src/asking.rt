@@ -19,11 +19,14 @@ fn mark_of(header: &Header) -> Option<Mark>
     read_mark(header.text).ok()
 }
 
-/// Whether an entry goes over the limit of 96 data sectors, `used` of which are used.
+/// The most data sectors of a recording.
+const MOST_DATA: u64 = 96;
+
+/// Whether an entry goes over the limit of data sectors, `used` of which are used.
 fn is_too_much(header: &Header, used: u64) -> bool
     ensures { result ≡ nat_lt 96 (used + (if header.now.flags.discard then 0 else header.now.sectors)) }
 {
-    used > 96 || header.data_sectors() > 96 - used
+    used > MOST_DATA || header.data_sectors() > MOST_DATA - used
 }
 
 /// The mark of an entry, or why it is declined: for its text, its sectors, its data.

@@ -5,17 +5,18 @@ ghost use Rattle.crash.specs.Effects.{effect_of};
 ghost use Rattle.trace.specs.Meaning.{step_effect, effects_of, marks_of};
 ghost use Rattle.loading.specs.Loading.{whole_sectors};
 
+use image::SECTOR;
 use mark::Mark;
-use recording::Entry;
+use recording::{Entry, Extent};
 use std::alloc::{AllocError, Global};
 use trace::{Contents, Step, Trace};
 
 /// The whole sectors of a row of bytes.
 #[tactic(auto, using(image::specs::Cuts::chunks_are_sectors))]
-fn whole_sectors(heap: Global, row: &[u8]) -> Result<Vec<[u8; 512]>, AllocError>
+fn whole_sectors(heap: Global, row: &[u8]) -> Result<Vec<[u8; SECTOR]>, AllocError>
     ensures { IfOk result (λ sectors. sectors.items ≡ whole_sectors row.now) }
 {
-    let (sectors, _) = row.as_chunks::<512>();
+    let (sectors, _) = row.as_chunks::<SECTOR>();
     sectors.iter().copied().collect(heap)
 }
 
@@ -23,30 +24,22 @@ fn whole_sectors(heap: Global, row: &[u8]) -> Result<Vec<[u8; 512]>, AllocError>
 fn step_of(heap: Global, item: &Entry, mark: Mark) -> Result<Step, AllocError>
     ensures { IfOk result (λ step. (step_effect step ≡ effect_of (item_seen item.now)) × (step.mark ≡ mark)) }
 {
-    let (flush, fua, first, contents) = match *item {
+    let Extent { first, sectors } = item.extent();
+    // `as`, here and below: no `From` leads from `u64` to `usize`, and each cast is proved to lose no bit.
+    let (flush, fua, contents) = match *item {
         Entry::Write {
-            sector,
             flush,
             fua,
             content,
             ..
-        } => {
-            let sectors = whole_sectors(heap, content)?;
-            (flush, fua, sector, Contents::Data(sectors))
-        }
-        Entry::Discard {
-            sector,
-            sectors,
-            flush,
-            ..
-        } => (flush, false, sector, Contents::Zeros(sectors as usize)),
-        Entry::Flush { sector, fua, .. } => (true, fua, sector, Contents::Zeros(0)),
-        Entry::Mark { .. } => (false, false, 0, Contents::Zeros(0)),
+        } => (flush, fua, Contents::Data(whole_sectors(heap, content)?)),
+        Entry::Discard { flush, .. } => (flush, false, Contents::Zeros(sectors as usize)),
+        Entry::Flush { fua, .. } => (true, fua, Contents::Zeros(0)),
+        Entry::Mark { .. } => (false, false, Contents::Zeros(0)),
     };
     Ok(Step {
         flush,
         fua,
-        // A sector's number as an index: the cast is proved to lose no bit.
         first: first as usize,
         contents,
         mark,

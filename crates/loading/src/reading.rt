@@ -11,6 +11,7 @@ use recording::{Entry, Reader};
 use std::alloc::Global;
 use trace::Trace;
 
+// Two that change: a struct of the reader and the count would be made for one loop.
 /// The next entry with its mark, or nothing at the end; `used` counts the data sectors so far.
 fn next_entry<'a>(
     reader: &mut Reader<'a>,
@@ -23,11 +24,10 @@ fn next_entry<'a>(
     let Some(header) = reader.header()? else {
         return Ok(None);
     };
+    // The reader tells counts: a public number of the next entry would need that one is left.
     let number = reader.total() - reader.left() + 1;
     let mark = ask(&header, number, *used, count)?;
-    let Some(entry) = reader.next()? else {
-        return Ok(None);
-    };
+    let entry = reader.next()?.unwrap();
     *used += header.data_sectors();
     Ok(Some((entry, mark)))
 }
@@ -40,7 +40,7 @@ pub fn read_trace<S: ImageStore>(heap: Global, bytes: &[u8], base: &S) -> Result
     let mut reader = Reader::open(bytes)?;
     let mut trace = Trace::new(heap);
     let mut used = 0;
-    // A count as the numbers of an entry are: the cast is proved to lose no bit.
+    // No `From` leads from `usize` to `u64`; the cast is proved to lose no bit.
     let count = base.count() as u64;
     while let Some((entry, mark)) = next_entry(&mut reader, &mut used, count)? {
         push_entry(heap, &mut trace, &entry, mark)?;

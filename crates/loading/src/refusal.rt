@@ -27,6 +27,7 @@ pub enum Refusal {
 }
 
 impl Refusal {
+    // The rules number the conditions.
     /// The number and the place of this refusal; want of memory has none.
     pub fn code(&self) -> Option<(u64, u64)>
         ensures { result ≡ code_of self.now }
@@ -41,6 +42,7 @@ impl Refusal {
     }
 }
 
+// By hand, as the next: a derived `From` has no contract, and clauses name the case.
 impl From<recording::Refusal> for Refusal {
     ghost from_gives = { λ f r. r ≡ Recording f };
 

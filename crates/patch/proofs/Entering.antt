@@ -19,7 +19,7 @@ counted_ok (Err f) n e = cc
 -- a reader with such a recording before it does not decline, and what it leaves is such a recording too
 pub not_declined : (r t : Reader) (o : Result (Option Entry) Refusal) → is_ok (remaining r) ≡ true → Stepping r t o → IsOk o
 not_declined r t (Ok o) s p = refl
-not_declined r t (Err f) s p = absurd (let z : false ≡ true = sym (ap is_ok (remaining_declined r f p.0)) ∙ s in cc)
+not_declined r t (Err f) s p = let z : false ≡ true = sym (ap is_ok (remaining_declined r f p.0)) ∙ s in cc
 
 pub stays_sound : (r t : Reader) (o : Result (Option Entry) Refusal) → is_ok (remaining r) ≡ true → Stepping r t o → is_ok (remaining t) ≡ true
 stays_sound r t (Ok None) s p = ap (λ x. is_ok (remaining x)) p.2 ∙ s
@@ -38,12 +38,12 @@ yields r t (Some e) s p =
 -- as many entries are left as the reader counts
 after : (e : Item) (o : Option Refusal) (rest : Result (List Item) Refusal) → is_ok (unless o (prepend e rest)) ≡ true → (is_ok rest ≡ true) × (length (items_of (unless o (prepend e rest))) ≡ suc (length (items_of rest)))
 after e None (Ok es) h = (refl, refl)
-after e None (Err f) h = absurd (let z : false ≡ true = h in cc)
-after e (Some f) rest h = absurd (let z : false ≡ true = h in cc)
+after e None (Err f) h = let z : false ≡ true = h in cc
+after e (Some f) rest h = let z : false ≡ true = h in cc
 
 at_end : (o : Option Refusal) → is_ok (unless {A = List Item} o (Ok [])) ≡ true → length (items_of (unless o (Ok []))) ≡ 0
 at_end None h = refl
-at_end (Some f) h = absurd (let z : false ≡ true = h in cc)
+at_end (Some f) h = let z : false ≡ true = h in cc
 
 left_from : (n k : ℕ) (x : List ℕ) → is_ok (recorded_from n k x) ≡ true → length (items_of (recorded_from n k x)) ≡ n
 unfolding recorded_from

@@ -1,5 +1,5 @@
 -- The first entry that lies outside, by its place among the entries.
-use Rattle.std.proofs.Common.{◌≡◌, ℕ, ◌+◌, Bool, true, false, cond, List, [], ◌∷◌, Some, None, Option, sym, refl, ap, ◌∙◌, arith}
+use Rattle.std.proofs.Common.{◌≡◌, ℕ, ◌+◌, Bool, true, false, cond, List, [], ◌∷◌, Some, None, Option, sym, refl, ap, ◌∙◌}
 use Rattle.std.specs.List.{position_from}
 use Rattle.std.specs.Option.{option_map}
 use Rattle.std.proofs.lemmas.Iterator.Adapters.{position_from-zero}
@@ -20,10 +20,10 @@ module _ {A : Type 0} (test : A → Bool) where
 -- where none lies outside, the first does not, nor does one behind it
 none_next : (o : Option ℕ) → option_map (λ i. i + 1) o ≡ None → o ≡ None
 none_next None e = refl
-none_next (Some i) e = absurd (let z : ◌≡◌ {A = ℕ} 0 1 = cc in omega arith)
+none_next (Some i) e = cc
 
 none_here : (b : Bool) (o : Option ℕ) → cond b (Some 0) o ≡ None → (b ≡ false) × (o ≡ None)
-none_here true o e = absurd (let z : ◌≡◌ {A = ℕ} 0 1 = cc in omega arith)
+none_here true o e = cc
 none_here false o e = (refl, e)
 
 pub none_outside : (count : ℕ) (e : Item) (es : List Item) → first_outside count (e ∷ es) ≡ None → (outside e count ≡ false) × (first_outside count es ≡ None)

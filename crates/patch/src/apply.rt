@@ -7,9 +7,11 @@ ghost use Rattle.patch.specs.Patched.{applied};
 
 use image::{ImageStore, SECTOR};
 use recording::Entry;
+use thiserror::Error;
 
 /// The entry touches a sector outside the image.
-#[derive(Clone, Copy, PartialEq, Eq, Debug)]
+#[derive(Clone, Copy, PartialEq, Eq, Debug, Error)]
+#[error("the entry touches a sector outside the image")]
 pub struct Outside;
 
 /// What an entry writes to its `i`-th sector.

@@ -4,9 +4,11 @@ ghost use Rattle.image.specs.Layers.{how_many};
 ghost use Rattle.patch.specs.Patched.{differs};
 
 use image::{ImageStore, fetch};
+use thiserror::Error;
 
 /// Two stores that have not the same number of sectors.
-#[derive(Clone, Copy, PartialEq, Eq, Debug)]
+#[derive(Clone, Copy, PartialEq, Eq, Debug, Error)]
+#[error("the stores have not the same number of sectors")]
 pub struct CountsDiffer;
 
 /// How many of the sectors that two stores have in common are not the same in both.

@@ -17,6 +17,7 @@ pub enum Declined {
 }
 
 impl Declined {
+    // The rules number the conditions.
     /// The number and the place of this refusal.
     pub fn code(&self) -> (u64, u64)
         ensures { result ≡ code_of self.now }

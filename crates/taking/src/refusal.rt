@@ -28,6 +28,7 @@ impl Refusal {
     }
 }
 
+// By hand, as the next: a derived `From` has no contract, and clauses name the case.
 impl From<loading::Refusal> for Refusal {
     ghost from_gives = { λ f r. r ≡ Reading f };
 

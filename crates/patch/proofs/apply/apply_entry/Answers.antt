@@ -20,7 +20,7 @@ unwrap-requires g c =
     let x = c.extent-extent.result in
     let image = g.S.ImageStore.sectors c.args.store.now in
     let n : length (g.S.ImageStore.sectors c.loop-i.store) ≡ length image = ap length c.loop-i.invariant.0 ∙ length_patched (sector_of e) (nth e) image c.loop-i.i in
-    let w = lies_inside x.first x.sectors c.count.result c.loop-i.i (omega arith) c.if-is_outside.ensures in
+    let w = lies_inside x.first x.sectors _ c.loop-i.i (omega arith) c.if-is_outside.ensures in
     let inside : x.first + c.loop-i.i < length (g.S.ImageStore.sectors c.loop-i.store) = omega (arith, w) in
     grind (arith, access_ok)
 
@@ -30,7 +30,7 @@ loop-i-preserved g c =
     let x = c.extent-extent.result in
     let image = g.S.ImageStore.sectors c.args.store.now in
     let i = c.loop-i.i in
-    let w = lies_inside x.first x.sectors c.count.result i (omega arith) c.if-is_outside.ensures in
+    let w = lies_inside x.first x.sectors _ i (omega arith) c.if-is_outside.ensures in
     let h : sector_of e + i < length image = omega (arith, w) in
     let s : g.S.ImageStore.sectors c.write.new.self ≡ set (g.S.ImageStore.sectors c.loop-i.store) (x.first + i) (nth e i) = grind arith in (
       s ∙ ap (λ y. set y (x.first + i) (nth e i)) c.loop-i.invariant.0
