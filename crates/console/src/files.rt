@@ -32,12 +32,24 @@ impl Program<'_> {
 
     /// Writes `bytes` to `out`, unless that would write to the file `input`.
     pub fn write_beside(&self, input: &Input, out: &str, bytes: &[u8]) -> Result<(), Failed> {
-        if input.may_be(self.rt, out) && !input.frees(self.rt, out)? {
-            return Err(self.refused(format_args!(
-                "{out} is the input; name another file for the output"
-            )));
+        if input.may_be(self.rt, out) {
+            self.free_name(input, out)?;
         }
         self.write(out, bytes)
+    }
+
+    /// Takes the name `out` away from its file, unless it names the file `input`: then the name
+    /// stays, and is refused. A link to the input is taken away, and the input stays as it is.
+    fn free_name(&self, input: &Input, out: &str) -> Result<(), Failed> {
+        let rt = self.rt;
+        let aside = format!(in rt.alloc(); "{out}.renamed-to-compare")?;
+        fs::rename(rt, out, aside.as_str())?;
+        if fs::exists(rt, input.path)? {
+            fs::remove_file(rt, aside.as_str())?;
+            return Ok(());
+        }
+        fs::rename(rt, aside.as_str(), out)?;
+        Err(self.refused(format_args!("{out} is the input; name another file for the output")))
     }
 }
 
@@ -46,18 +58,5 @@ impl Input<'_> {
     fn may_be(&self, rt: &HostRuntime, out: &str) -> bool {
         fs::metadata(rt, out).is_ok_and(|found| found.is_file())
             && fs::read(rt, out).is_ok_and(|held| held.as_slice() == self.bytes.as_slice())
-    }
-
-    /// Takes the name `out` away from its file, unless it names this one: then the name stays, and
-    /// the answer is false. A link to this file is taken away, and the file stays as it is.
-    fn frees(&self, rt: &HostRuntime, out: &str) -> Result<bool, Failed> {
-        let aside = format!(in rt.alloc(); "{out}.renamed-to-compare")?;
-        fs::rename(rt, out, aside.as_str())?;
-        if fs::exists(rt, self.path)? {
-            fs::remove_file(rt, aside.as_str())?;
-            return Ok(true);
-        }
-        fs::rename(rt, aside.as_str(), out)?;
-        Ok(false)
     }
 }
