@@ -9,6 +9,7 @@ pub fn is_row(row: &[u8])
     ensures { Bytes row.now }
 {}
 
+// Slices, here and below: they are the caller's own buffers, and `access` has asked for their length.
 /// Fills `sector` with sector `n` of a row.
 pub fn get_sector(row: &[u8], n: usize, sector: &mut [u8])
     requires inside { 512 * n + 512 ≤ length row.now }

@@ -8,6 +8,9 @@ use crate::entry::Flags;
 use crate::fields::{number64, zeros};
 use image::SECTOR;
 
+/// The most bytes of a mark's text: what its sector has behind the four numbers.
+const MOST_TEXT: usize = 480;
+
 /// The numbers of an entry's sector.
 #[derive(Clone, Copy)]
 pub struct Fields {
@@ -55,7 +58,7 @@ impl Fields {
     fn is_text_flawed(&self) -> bool
         ensures { result ≡ text_flawed self.now.size (flags_of self.now.bits) }
     {
-        self.size > 480 || (self.size != 0 && !self.flags().mark)
+        self.size > MOST_TEXT || (self.size != 0 && !self.flags().mark)
     }
 
     /// Whether flags exclude one another, or there is nothing to do.

@@ -9,6 +9,9 @@ use crate::form::Fields;
 use crate::refusal::Refusal;
 use image::SECTOR;
 
+/// The most entries of a recording.
+const MOST_ENTRIES: u64 = 256;
+
 /// Whether the recording is shorter than a sector, or its head is wrong.
 fn is_head_faulty(bytes: &[u8]) -> bool
     ensures { result ≡ head_faulty bytes.now }
@@ -102,7 +105,7 @@ impl<'a> Reader<'a> {
             return Err(Refusal::Head);
         }
         let total = number64(bytes, 16);
-        if total > 256 {
+        if total > MOST_ENTRIES {
             return Err(Refusal::TooMany);
         }
         Ok(Reader {
