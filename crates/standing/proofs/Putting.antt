@@ -1,5 +1,5 @@
 -- One sector put onto an image.
-use Rattle.std.proofs.Common.{◌≡◌, ℕ, zero, suc, ◌<◌, ◌≤◌, Bool, true, false, cond, eqb, [], length, get_or, set, is_ok, Ok, Err, Result, sym, refl, ap, ◌∙◌, inl, inr, arith}
+use Rattle.std.proofs.Common.{◌≡◌, ℕ, ◌<◌, ◌≤◌, Bool, true, false, cond, eqb, [], length, get_or, set, is_ok, Ok, Err, Result, sym, refl, ap, ◌∙◌, inl, inr, arith}
 use Rattle.std.proofs.lemmas.List.{set_past}
 use Rattle.std.proofs.lemmas.Bool.{cases_lt, lt-ltb}
 use Rattle.image.specs.Sectors.{Sector, Image}
@@ -9,6 +9,7 @@ use Rattle.image.specs.declared.refusal.Refusal.TheVariants.{BufferLength, Secto
 use Rattle.crash.specs.Rules.{written}
 use Rattle.trace.specs.declared.steps.Trace.{Trace}
 use Rattle.trace.specs.Meaning.{effects_of, recording_of, content_at}
+use Rattle.candidates.proofs.Leaving.{content_written}
 use Rattle.standing.specs.Places.{replaced}
 
 -- a sector past the end stays away
@@ -37,11 +38,6 @@ replaced_write image s x = elim (cases_lt s (length image)) [
     any true e = e
     any false e = refl
 
--- the content of a number, from the sector that the base has
-pub content_written : (base : Image) (t : Trace) (s j : ℕ) (x : Sector) → x ≡ get_or base s [] → content_at x (effects_of t) s j ≡ written (recording_of base t) s j
-content_written base t s zero x e = e
-content_written base t s (suc i) x e = refl
-
 -- what one write leaves, from the sector that was read, the content and the answer
 pub put_one : (base image after : Image) (t : Trace) (s j : ℕ) (x y : Sector) (r : Result (Unit {0}) Refusal) → length image ≡ length base →
     (s < length base → x ≡ get_or base s []) → y ≡ content_at x (effects_of t) s j → r ≡ access (length y) s (length image) →
@@ -49,6 +45,6 @@ pub put_one : (base image after : Image) (t : Trace) (s j : ℕ) (x y : Sector) 
 put_one base image after t s j x y r size read e a w =
     let h : after ≡ replaced image s y = w ∙ ap (λ (q : Result (Unit {0}) Refusal). cond (is_ok q) (set image s y) image) a ∙ replaced_write image s y in
     elim (cases_lt s (length base)) [
-      | inl l ↦ h ∙ ap (replaced image s) (e ∙ content_written base t s j x (read l))
+      | inl l ↦ h ∙ ap (replaced image s) (e ∙ content_written (recording_of base t) s j x (read l))
       | inr g ↦ h ∙ sym (replaced_past image s y (omega arith)) ∙ replaced_past image s (written (recording_of base t) s j) (omega arith)
     ]

@@ -1,8 +1,8 @@
 -- From a state that stands to the next.
-use Rattle.std.proofs.Common.{◌≡◌, ℕ, ◌+◌, ◌<◌, true, false, eqb, List, [], ◌∷◌, ◌++◌, map, length, get_or, take, replicate, Some, None, Ok, Option, Result, sym, refl, ap, ◌∙◌, subst, inl, inr, arith}
+use Rattle.std.proofs.Common.{◌≡◌, ℕ, ◌+◌, ◌<◌, true, false, eqb, List, [], ◌++◌, map, length, get_or, take, replicate, Some, None, Ok, Option, Result, sym, refl, ap, ◌∙◌, subst, inl, inr, arith}
 use Rattle.std.proofs.lemmas.List.{get_or-take, take_at}
 use Rattle.std.proofs.lemmas.Bool.{cases_lt, cases_Bool, not-false, eqb-true, ltb-false}
-use Rattle.std.proofs.lemmas.Simd.{map-map}
+use Rattle.std.proofs.lemmas.Simd.{map-map, splat_is_map}
 use Rattle.image.specs.Sectors.{Image, Shaped}
 use Rattle.crash.specs.Rules.{Recording, written}
 use Rattle.crash.specs.States.{candidates, states}
@@ -20,10 +20,6 @@ use Rattle.standing.specs.declared.choice.Choice.{Choice}
 use Rattle.standing.specs.Places.{candidates_in, lists_in, counts_in, places_in, taken, chosen, differs, wavers, Put, MovedOn}
 use Rattle.standing.specs.Standing.{Lists, Firsts, Stands, Onward}
 use Rattle.standing.proofs.Picking.{counts_length, count_at, numbered_at, candidate_whole, place_below, state_at, state_length, state_is}
-
-zeros_same : (xs : List ℕ) → replicate {A = ℕ} (length xs) 0 ≡ map (λ _. 0) xs
-zeros_same [] = refl
-zeros_same (x ∷ xs) = ap (λ (l : List ℕ). 0 ∷ l) (zeros_same xs)
 
 module _ (d : Recording) (p : ℕ) (c : Choice) (table : Lists d p c) where
   count_listed : (s : ℕ) → s < length d.base → get_or (counts_in c) s 0 ≡ length (candidates d p s)
@@ -64,7 +60,7 @@ lay_stands d p c image shaped put w table firsts =
     places =
         firsts
         ∙ ap (λ (n : ℕ). replicate {A = ℕ} n 0) (sym (counts_length d p))
-        ∙ zeros_same (counts d p)
+        ∙ splat_is_map (counts d p) (length (counts d p)) 0 refl
         ∙ sym (places_zero (counts d p))
 
     shown : (s : ℕ) → s < length d.base → get_or image s [] ≡ chosen d c s

@@ -2,6 +2,7 @@
 ghost use Rattle.std.specs.Prelude.{◌≡◌, length};
 
 use candidates::Few;
+use image::MOST;
 
 /// The candidates of a sector, by their numbers, and the place of the one that it takes.
 #[derive(Clone, Copy)]
@@ -13,6 +14,6 @@ pub(crate) struct Pick {
 /// What the standing state takes of every sector at a crash point.
 #[derive(Clone, Copy)]
 pub struct Choice {
-    pub(crate) picks: [Pick; 64],
+    pub(crate) picks: [Pick; MOST],
     ghost size: { length picks ≡ 64 },
 }

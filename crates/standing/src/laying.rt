@@ -14,16 +14,19 @@ use candidates::{Refusal, candidates_of};
 use image::{ImageStore, Overlay};
 use trace::Trace;
 
+// The trace and the overlay are lent for each step: a choice that kept them could not be stored
+// beside them.
 impl Choice {
     /// The candidates of every sector at a point, with the first of each taken.
     pub fn at<S: ImageStore>(trace: &Trace, base: &S, point: usize) -> Result<Choice, Refusal>
         ensures { Entry (recording_of (S.ImageStore.sectors base.now) trace.now) point result }
     {
-        let Choice { mut picks } = Choice::new();
+        let mut choice = Choice::new();
+        // By number: a store lends no slice of its sectors.
         for s in 0..base.count() {
-            picks[s].candidates = candidates_of(trace, base, s, point)?;
+            choice.picks[s].candidates = candidates_of(trace, base, s, point)?;
         }
-        Ok(Choice { picks })
+        Ok(choice)
     }
 
     /// Puts what the sectors from `first` on take onto an overlay, where that is due.
@@ -40,6 +43,7 @@ impl Choice {
         ensures shaped { Shaped (S.ImageStore.sectors state.old.below) }
         ensures image { (test : ℕ → Bool) → ((s : ℕ) (pick : Pick) (b : Bool) → HasPick self.now s pick → FnReturnsAt F.Fn due pick b → b ≡ test s) → Put test (chosen (recording_of (S.ImageStore.sectors state.old.below) trace.now) self.now) first (length (S.ImageStore.sectors state.old.below)) (shown S.ImageStore.sectors state.old) (shown S.ImageStore.sectors state.new) }
     {
+        // By number: a store lends no slice of its sectors.
         for s in first..state.below.count() {
             let pick = &self.picks[s];
             if due(pick) {

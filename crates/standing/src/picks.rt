@@ -40,21 +40,21 @@ impl Choice {
     }
 
     /// How many candidates each sector has.
-    pub(crate) fn counts(&self) -> [usize; 64]
+    pub(crate) fn counts(&self) -> [usize; MOST]
         ensures { result ≡ counts_in self.now }
     {
         self.picks.map(|pick| pick.count())
     }
 
     /// The place of the candidate that each sector takes.
-    pub(crate) fn places(&self) -> [usize; 64]
+    pub(crate) fn places(&self) -> [usize; MOST]
         ensures { result ≡ places_in self.now }
     {
         self.picks.map(|pick| pick.place)
     }
 
     /// Takes the candidates at other places.
-    pub(crate) fn place(&mut self, places: &[usize; 64])
+    pub(crate) fn place(&mut self, places: &[usize; MOST])
         ensures candidates { candidates_in self.new ≡ candidates_in self.old }
         ensures places { places_in self.new ≡ places.now }
     {

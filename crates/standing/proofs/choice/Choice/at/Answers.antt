@@ -4,13 +4,13 @@ use Rattle.standing.proofs.Listing.{ListedTo, listed_none, listed_more, listed_a
 use Rattle.standing.proofs.choice.Choice.at.Goals as goal
 
 pub loop-s-init : goal.loop-s-init
-loop-s-init g c = listed_none _ _ c.new.result c.new.ensures.places
+loop-s-init g c = listed_none _ _ c.new-choice.result c.new-choice.ensures.places
 
 pub loop-s-preserved : goal.loop-s-preserved
 loop-s-preserved g c =
-    let found = c.in_ok-picks.ensures in
+    let found = c.in_ok-choice.ensures in
     let inside : c.loop-s.s < 64 = omega (arith, c.loop-s-test.true, c.count-s-end.ensures.few) in
-    listed_more _ c.args.point c.loop-s.s c.loop-s.picks c.index-picks-s.result _ c.loop-s.invariant inside refl found.2 found.1
+    listed_more _ c.args.point c.loop-s.s c.loop-s.choice.0 _ _ c.loop-s.invariant inside refl found.2 found.1
 
 pub returns : goal.returns
 returns g c =
@@ -19,4 +19,4 @@ returns g c =
     let few = c.count-s-end.ensures.few in
     let number = c.count-s-end.ensures.number in
     let e : c.loop-s.s ≡ length image = omega (arith, c.loop-s-test.false, c.loop-s.auto.s-end) in
-    listed_all d c.args.point _ (omega arith) (subst (λ (n : ℕ). ListedTo d c.args.point n c.loop-s.picks) e c.loop-s.invariant)
+    listed_all d c.args.point _ (omega arith) (subst (λ (n : ℕ). ListedTo d c.args.point n c.loop-s.choice.0) e c.loop-s.invariant)
