@@ -37,10 +37,7 @@ pub fn read(text: &[u8]) -> Option<Number<'_>>
     ensures { Reads text.now result }
 {
     let n = run(text);
-    if n == 0 || n > 3 {
-        return None;
-    }
-    if n > 1 && text[0] == b'0' {
+    if n == 0 || n > 3 || (n > 1 && text[0] == b'0') {
         return None;
     }
     let (digits, rest) = text.split_at(n);

@@ -114,6 +114,7 @@ pub fn read_mark(text: &[u8]) -> Result<Mark, Refusal>
 }
 
 /// A text spells at most one mark, and `mark_of` is that one.
+#[tactic(auto, using(crate::proofs::Unique::one, crate::proofs::Finding::the_mark))]
 pub fn at_most_one()
     ensures one { AtMostOne }
     ensures found { TheMark }
