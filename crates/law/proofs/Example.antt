@@ -21,22 +21,22 @@ quiet = record { last = 0; candidates = λ p n. content ∷ []; values = λ p n.
 -- a list of one has only its one
 only : {A : Type 0} (a b : A) → Has (a ∷ []) b → a ≡ b
 only {A} a b (zero, l, e) = e a
-only {A} a b (suc k, l, e) = absurd (let z : ⊥ = omega arith in z)
+only {A} a b (suc k, l, e) = absurd (omega arith)
 
 has_one : {A : Type 0} (a b : A) → a ≡ b → Has (a ∷ []) b
 has_one a b e = (0, omega arith, λ d. e)
 
 below_one : (image : Image) → ground ≡ image → (n : ℕ) → n < 1 → Has (content ∷ []) (get_or image n [])
 below_one image e zero l = has_one content (get_or image 0 []) (ap (λ (i : Image). get_or i 0 []) e)
-below_one image e (suc n) l = absurd (let z : ⊥ = omega arith in z)
+below_one image e (suc n) l = absurd (omega arith)
 
 permitted : (p : ℕ) (image : Image) → Has (ground ∷ []) image → Permitted ground quiet p image
 permitted p image h = let e = only ground image h in (sym (ap (λ (i : Image). length i) e), below_one image e)
 
 is_ground : (p : ℕ) (image : Image) → Permitted ground quiet p image → ground ≡ image
-is_ground p [] P = absurd (let z : ⊥ = omega (arith, P.0) in z)
+is_ground p [] P = absurd (omega (arith, P.0))
 is_ground p (a ∷ []) P = ap (λ (x : Sector). x ∷ []) (only content a (P.1 0 (omega arith)))
-is_ground p (a ∷ b ∷ c) P = absurd (let z : ⊥ = omega (arith, P.0) in z)
+is_ground p (a ∷ b ∷ c) P = absurd (omega (arith, P.0))
 
 abbrev bare : Image → Outcome
 bare i = a_tree []

@@ -53,8 +53,8 @@ Throughout s (then h e) = Throughout s h × Each s h e
 -- outcome 0 is a tree admitted
 admits : (R : Recording) (p : ℕ) (o : Outcome) (j : ℕ × ℕ) → Judges R p o j → j.0 ≡ 0 → Admits R p o
 admits R p (a_tree nodes) j (inl t) e = t.1
-admits R p (a_tree nodes) j (inr t) e = absurd (let z : ⊥ = omega (arith, t.0) in z)
-admits R p (a_fault f) j t e = absurd (let z : ⊥ = omega (arith, ap (λ (i : ℕ × ℕ). i.0) t) in z)
+admits R p (a_tree nodes) j (inr t) e = absurd (omega (arith, t.0))
+admits R p (a_fault f) j t e = absurd (omega (arith, ap (λ (i : ℕ × ℕ). i.0) t))
 
 zero_of : (R : Recording) (p : ℕ) (o : Outcome) (j : ℕ × ℕ) → Judges R p o j → Admits R p o → j.0 ≡ 0
 zero_of R p (a_tree nodes) j (inl t) a = ap (λ (i : ℕ × ℕ). i.0) t.0
@@ -65,25 +65,25 @@ zero_of R p (a_fault f) j t a = absurd a
 unfinished : (u : ℕ) → cond {A = ℕ} (ltb 0 u) 3 1 ≡ 2 → ⊥
 unfinished u e =
     ⊎_elim
-    (λ (t : ltb 0 u ≡ true). let c : cond {A = ℕ} (ltb 0 u) 3 1 ≡ 3 = cond-true (ltb 0 u) 3 1 t in let z : ⊥ = omega arith in z)
-    (λ (t : ltb 0 u ≡ false). let c : cond {A = ℕ} (ltb 0 u) 3 1 ≡ 1 = cond-false (ltb 0 u) 3 1 t in let z : ⊥ = omega arith in z)
+    (λ (t : ltb 0 u ≡ true). let c : cond {A = ℕ} (ltb 0 u) 3 1 ≡ 3 = cond-true (ltb 0 u) 3 1 t in omega arith)
+    (λ (t : ltb 0 u ≡ false). let c : cond {A = ℕ} (ltb 0 u) 3 1 ≡ 1 = cond-false (ltb 0 u) 3 1 t in omega arith)
     (cases_Bool (ltb 0 u))
 
 finished : (u f : ℕ) → cond {A = ℕ} (ltb 0 u) 3 (cond (ltb 0 f) 4 2) ≡ 2 → (u ≡ 0) × (f ≡ 0)
 finished u f e =
     ⊎_elim
-    (λ (t : ltb 0 u ≡ true). absurd (let c : cond {A = ℕ} (ltb 0 u) 3 (cond (ltb 0 f) 4 2) ≡ 3 = cond-true (ltb 0 u) 3 (cond (ltb 0 f) 4 2) t in let z : ⊥ = omega arith in z))
+    (λ (t : ltb 0 u ≡ true). absurd (let c : cond {A = ℕ} (ltb 0 u) 3 (cond (ltb 0 f) 4 2) ≡ 3 = cond-true (ltb 0 u) 3 (cond (ltb 0 f) 4 2) t in omega arith))
     (λ (t : ltb 0 u ≡ false).
     let c : cond {A = ℕ} (ltb 0 u) 3 (cond (ltb 0 f) 4 2) ≡ cond (ltb 0 f) 4 2 = cond-false (ltb 0 u) 3 (cond (ltb 0 f) 4 2) t in
     let l : u ≤ 0 = ltb-false 0 u t in
     ⊎_elim
-    (λ (q : ltb 0 f ≡ true). absurd (let d : cond {A = ℕ} (ltb 0 f) 4 2 ≡ 4 = cond-true (ltb 0 f) 4 2 q in let z : ⊥ = omega arith in z))
+    (λ (q : ltb 0 f ≡ true). absurd (let d : cond {A = ℕ} (ltb 0 f) 4 2 ≡ 4 = cond-true (ltb 0 f) 4 2 q in omega arith))
     (λ (q : ltb 0 f ≡ false). let m : f ≤ 0 = ltb-false 0 f q in let z : (u ≡ 0) × (f ≡ 0) = omega arith in z)
     (cases_Bool (ltb 0 f)))
     (cases_Bool (ltb 0 u))
 
 verdict_safe : (c : Condition) (u f : ℕ) → verdict_of c u f ≡ 2 → (c ≡ Ended) × (u ≡ 0) × (f ≡ 0)
-verdict_safe Empty u f e = absurd (let z : ⊥ = omega arith in z)
+verdict_safe Empty u f e = cc
 verdict_safe Ready u f e = absurd (unfinished u e)
 verdict_safe Waiting u f e = absurd (unfinished u e)
 verdict_safe Judged u f e = absurd (unfinished u e)

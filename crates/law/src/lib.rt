@@ -5,6 +5,7 @@
 ghost use Rattle.law.specs.Law.{EveryCallIsAnswered, EveryHistoryIsLawful, SomeRunIsSafe, TheLawDecides};
 
 /// Whatever calls are made of a run, its history keeps the law.
+#[tactic(auto, using(crate::proofs::Lawful::lawful))]
 pub fn law_stands()
     ensures { EveryHistoryIsLawful }
 {}
