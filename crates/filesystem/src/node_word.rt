@@ -20,6 +20,7 @@ impl NodeWord {
     pub fn read(word: u32) -> Option<NodeWord>
         ensures { MatchOption result ((said : NodeWord) → Says said word → ⊥) (λ said. Says said word) }
     {
+        // No cast loses a bit: each is of a remainder that its type holds.
         let parent = ((word >> 26) % 16) as u8;
         match kind_of(word) {
             0 if word == 0 => Some(NodeWord::Absent),

@@ -13,7 +13,7 @@ use crate::fault::Fault;
 use crate::node_word::NodeWord;
 use crate::words::word_at;
 use image::{ImageStore, SECTOR, fetch};
-use tree::{Builder, Misplaced, Node, Tree, print};
+use tree::{Builder, Misplaced, NODES, Node, Tree, print};
 
 /// The print of the first `size` bytes of a sector, of all where it has no more.
 fn front_print<S: ImageStore>(image: &S, sector: usize, size: usize) -> u32
@@ -60,6 +60,7 @@ fn lay_word<S: ImageStore>(
     builder.lay(meaning(image, said))
 }
 
+// The tree handed to `recover`: a rule, as there.
 /// Reads the tree. On a fault `tree` is as it was.
 pub fn read_tree<S: ImageStore>(image: &S, lowest: usize, tree: &mut Tree) -> Result<(), Fault>
     ensures told { told result tree.new.nodes ≡ tree_of lowest (S.sectors image.now) }
@@ -67,7 +68,8 @@ pub fn read_tree<S: ImageStore>(image: &S, lowest: usize, tree: &mut Tree) -> Re
 {
     let sector = fetch(image, 1);
     let mut builder = Builder::new();
-    for k in 0..16 {
+    // Nodes are named by number, a byte; there are 16.
+    for k in 0..NODES as u8 {
         let fault = Fault::NodeWord { node: k };
         lay_word(image, lowest, word_at(&sector, k), &mut builder).map_err(|_| fault)?;
     }

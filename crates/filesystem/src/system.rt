@@ -19,6 +19,7 @@ pub trait FileSystem {
 
     ghost after: { Self → Image → Image };
 
+    // A rule: the tree handed in keeps its value on a fault.
     /// Recovers the image in place, and reads its tree. On a fault the tree is as it was.
     fn recover<S: ImageStore>(&self, image: &mut S, tree: &mut Tree) -> Result<(), Fault>
         ensures told { told result tree.new.nodes ≡ outcome self.now (S.ImageStore.sectors image.old) }

@@ -9,6 +9,7 @@ fn byte_at(sector: &[u8], i: usize) -> u8
     sector.get(i).copied().unwrap_or(0)
 }
 
+// Any slice: an array would ask more of callers.
 /// Word `i` of a sector, the least byte first; bytes past the sector's end count as 0.
 #[tactic(auto, unfolding(crate::specs::Words::word_at))]
 pub fn word_at(sector: &[u8], i: u8) -> u32
