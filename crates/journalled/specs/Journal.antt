@@ -1,7 +1,7 @@
 -- The journalled layout: sector 2 describes a transaction of k sectors, whose new contents
 -- are sectors 3 to 2 + k, and sector 3 + k commits it.
 use Rattle.std.specs.Prelude.{ℕ, zero, suc, ◌+◌, ◌*◌, ◌/◌, ◌%◌, ◌^◌, Bool, cond, not, ◌&&◌, ◌||◌, length, Ok, Err, Result, List, map, ◌==◌, nat_le, nat_lt, slice_set}
-use Rattle.std.specs.List.{range_with_len, fold, sum_by}
+use Rattle.std.specs.List.{range_with_len, sum_by}
 use Rattle.filesystem.specs.declared.fault.Fault.{Fault}
 use Rattle.filesystem.specs.declared.fault.Fault.TheVariants.{Sequence}
 use Rattle.image.specs.Sectors.{Image, Sector}
@@ -53,13 +53,6 @@ word_sum sector = sum_by (word_at sector) (range_with_len 0 128)
 
 abbrev pub journal_sum : Image → (k : ℕ) → ℕ
 journal_sum image k = sum_by (λ n. word_sum (sector_of image n)) (range_with_len 2 (k + 1))
-
--- a sum with a word more, modulo 2^30; and f's numbers added up so, one after another
-unfoldable pub added : (sum word : ℕ) → ℕ
-added sum w = (sum + w) % 2 ^ 30
-
-abbrev pub added_up : (f : ℕ → ℕ) → List ℕ → ℕ
-added_up f ns = fold added 0 (map f ns)
 
 -- word 0 of sector 3 + k is of kind 1 with the sequence number s; word 1 of kind 3 with the sum
 unfoldable pub commits : (s : ℕ) → Image → (k : ℕ) → Bool

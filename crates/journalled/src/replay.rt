@@ -7,25 +7,6 @@ use crate::transaction::standing;
 use filesystem::{rest_of, word_at};
 use image::{ImageStore, SECTOR, copy_sector, fetch};
 
-/// Copies sector `from` to sector `to`.
-fn copy<S: ImageStore>(image: &mut S, from: usize, to: usize)
-    requires source { from < length (S.sectors image.old) }
-    requires target { to < length (S.sectors image.old) }
-    ensures after { S.sectors image.new ≡ slice_set (S.sectors image.old) to (sector_of (S.sectors image.old) from) }
-    ensures kept { S.keeps image.old image.new }
-{
-    copy_sector(image, from, to).unwrap();
-}
-
-/// Writes sector `n`.
-fn replace<S: ImageStore>(image: &mut S, n: usize, sector: &[u8; SECTOR])
-    requires { n < length (S.sectors image.old) }
-    ensures after { S.sectors image.new ≡ slice_set (S.sectors image.old) n sector.now }
-    ensures kept { S.keeps image.old image.new }
-{
-    image.write(n, sector).unwrap();
-}
-
 /// Replaces word `i` of a sector.
 #[tactic(auto, using(crate::proofs::Pasting::word_pasted))]
 fn put_word(sector: &mut [u8; SECTOR], i: usize, word: u32)
@@ -44,11 +25,11 @@ fn advance<S: ImageStore>(image: &mut S)
     let mut sector = fetch(image, 0);
     let sequence = rest_of(word_at(&sector, 2));
     put_word(&mut sector, 2, 0xC000_0000 + rest_of(sequence + 1));
-    replace(image, 0, &sector);
+    image.write(0, &sector).unwrap();
 }
 
 /// Copies the sectors of the transaction to their homes.
-#[tactic(auto, using(crate::proofs::Naming::many, crate::proofs::Naming::named_inside, crate::proofs::Naming::named_step, crate::specs::Copies::copied_none, crate::specs::Copies::length_copied, crate::specs::Copies::few))]
+#[tactic(auto, using(crate::proofs::Naming::many, crate::proofs::Naming::named_inside, crate::proofs::Naming::named_step, image::specs::Fetched::sector_is, crate::specs::Copies::copied_none, crate::specs::Copies::length_copied, crate::specs::Copies::few))]
 fn copy_homes<S: ImageStore>(image: &mut S, homes: &[usize])
     requires room { 16 ≤ length (S.sectors image.old) }
     requires stood { stands (S.sectors image.old) ≡ true }
@@ -57,7 +38,7 @@ fn copy_homes<S: ImageStore>(image: &mut S, homes: &[usize])
     ensures kept { S.keeps image.old image.new }
 {
     for (i, home) in homes.iter().enumerate() {
-        copy(image, 3 + i, *home);
+        copy_sector(image, 3 + i, *home).unwrap();
     }
 }
 
@@ -68,9 +49,8 @@ pub fn restore<S: ImageStore>(image: &mut S)
     ensures after { S.sectors image.new ≡ recovered (S.sectors image.old) }
     ensures kept { S.keeps image.old image.new }
 {
-    let Some(homes) = standing(image) else {
-        return;
-    };
-    copy_homes(image, homes.as_slice());
-    advance(image);
+    if let Some(homes) = standing(image) {
+        copy_homes(image, homes.as_slice());
+        advance(image);
+    }
 }

@@ -4,6 +4,7 @@ ghost use Rattle.journalled.specs.Journal.{sequenced, journalled_outcome, journa
 ghost use Rattle.journalled.specs.Shapes.{after_count, after_shaped};
 ghost use Rattle.std.proofs.Common.{lit≤};
 
+use crate::descriptor::LOWEST;
 use crate::replay::restore;
 use filesystem::{Fault, FileSystem, check_head, kind_of, read_tree, word_at};
 use image::{ImageStore, fetch};
@@ -15,9 +16,6 @@ pub struct Journalled;
 
 /// Word 0 of sector 0.
 const FORMAT: u32 = 0x4000_0001;
-
-/// The lowest data sector.
-const LOWEST: usize = 10;
 
 /// Checks that word 2 of sector 0 is a sequence number.
 fn check_sequence<S: ImageStore>(image: &S) -> Result<(), Fault>
