@@ -8,6 +8,7 @@ use image::{ImageStore, Overlay};
 use patch::copy_image;
 use tree::Tree;
 
+// A rule: the tree handed in keeps its value on a fault.
 /// Recovers the image that the overlay shows, and copies the image afterwards to `out`, if that
 /// has as many sectors. The store below the overlay is as it was.
 pub fn recover_apart<F: FileSystem, A: ImageStore, B: ImageStore>(

@@ -6,7 +6,7 @@ ghost use Rattle.recovery.specs.Lines.{node_lines, pair_line, lines_of};
 use filesystem::Fault;
 use std::alloc::{AllocError, Global};
 use std::fmt::Write;
-use tree::{NODES, Tree};
+use tree::Tree;
 
 /// The lines of a tree's nodes.
 #[tactic(auto, unfolding(crate::specs::Lines::node_lines))]
@@ -14,9 +14,7 @@ fn tree_lines(heap: Global, tree: &Tree) -> Result<String, AllocError>
     ensures { IfOk result (λ s. string_bytes s ≡ node_lines tree.now.nodes 16) }
 {
     let mut lines = String::new(heap);
-    // By number: a tree lends its nodes one by one.
-    for k in 0..NODES {
-        let node = tree.node(k);
+    for (k, node) in tree.nodes().iter().enumerate() {
         writeln!(lines, "{k} {node}")?;
     }
     Ok(lines)
