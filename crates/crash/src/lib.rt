@@ -13,6 +13,7 @@ pub fn durable_laws()
 {}
 
 /// The effects of entries write what the entries write.
+#[tactic(auto, using(crate::proofs::Effecting::same_sectors, crate::proofs::Effecting::same_contents))]
 pub fn effects_are_the_entries()
     ensures { EffectsAreTheEntries }
 {}
