@@ -8,7 +8,7 @@ mod tables {
     use loading::read_trace;
     use points::{LengthsDiffer, advance, check_points, point_states};
     use std::alloc::{AllocError, Global};
-    use std::iter;
+    use std::iter::repeat_n;
     use std::test::Fail;
     use tree::Node;
 
@@ -51,47 +51,41 @@ mod tables {
         }
     }
 
-    // Appends a number of `width` bytes, the least first.
-    fn push_number(row: &mut Vec<u8>, number: u64, width: usize) -> Result<(), AllocError> {
-        row.extend_from_slice(&number.to_le_bytes()[..width.min(8)])
-    }
-
-    fn push_many(row: &mut Vec<u8>, byte: u8, n: usize) -> Result<(), AllocError> {
-        row.extend(iter::repeat(byte).take(n))
-    }
-
     // A recording's head.
     fn head(heap: Global, entries: u64) -> Result<Vec<u8>, AllocError> {
         let mut row = Vec::new(heap);
         row.extend_from_slice(b"rhswfsj\0")?;
-        push_number(&mut row, 1, 8)?;
-        push_number(&mut row, entries, 8)?;
-        push_number(&mut row, 512, 4)?;
-        push_many(&mut row, 0, 484)?;
+        row.extend_from_slice(&1u64.to_le_bytes())?;
+        row.extend_from_slice(&entries.to_le_bytes())?;
+        row.extend_from_slice(&512u32.to_le_bytes())?;
+        row.extend(repeat_n(0, 484))?;
         Ok(row)
     }
 
     // Appends an entry's sector.
     fn push_sector(row: &mut Vec<u8>, line: Line) -> Result<(), AllocError> {
-        push_number(row, line.sector, 8)?;
-        push_number(row, line.sectors, 8)?;
-        push_number(row, line.flags, 8)?;
-        push_number(row, line.text.len() as u64, 8)?;
+        // No From leads from usize to u64.
+        let size = line.text.len() as u64;
+        for number in [line.sector, line.sectors, line.flags, size] {
+            row.extend_from_slice(&number.to_le_bytes())?;
+        }
         row.extend_from_slice(line.text)?;
-        push_many(row, 0, 480usize.saturating_sub(line.text.len()))
+        row.extend(repeat_n(0, 480usize.saturating_sub(line.text.len())))
     }
 
     // Appends an entry with its data.
     fn push_line(row: &mut Vec<u8>, line: Line) -> Result<(), AllocError> {
         push_sector(row, line)?;
         if line.flags & (DISCARD + MARK) == 0 {
+            // At most 1000: the cast loses no bit.
             let n = line.sectors.min(1000) as usize;
-            push_many(row, line.fill, n * 512)?;
+            row.extend(repeat_n(line.fill, n * 512))?;
         }
         Ok(())
     }
 
     fn recorded(heap: Global, lines: &[Line]) -> Result<Vec<u8>, AllocError> {
+        // No From leads from usize to u64.
         let mut row = head(heap, lines.len() as u64)?;
         for line in lines {
             push_line(&mut row, *line)?;
