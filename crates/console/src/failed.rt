@@ -16,6 +16,7 @@ pub enum Failed {
     Output,
 }
 
+// By hand, as the next two: what failed below is not kept, and a derived `From` keeps it.
 impl From<AllocError> for Failed {
     ghost from_gives = { λ _ failed. failed ≡ Memory };
 

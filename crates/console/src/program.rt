@@ -42,6 +42,7 @@ impl Program<'_> {
         match outcome {
             Ok(()) => return ExitCode::SUCCESS,
             Err(Failed::Said) => {}
+            // Where a reason cannot be said, nothing is left to say that on.
             Err(Failed::Memory) => {
                 let _ = self.refused("no memory is left");
             }

@@ -38,6 +38,7 @@ impl<'a> Usage<'a> {
         program.status(self.follow(program, work))
     }
 
+    // What `run` asks of the work, the two below ask too: they do it for `run`.
     /// Follows the program's arguments.
     fn follow<A, F>(&self, program: Program, work: F) -> Result<(), Failed>
     where

@@ -57,6 +57,7 @@ impl Tally {
     }
 }
 
+// By hand: a derived text would make an error of a tally.
 impl fmt::Display for Tally {
     fn fmt<W: fmt::Write>(&self, f: &mut fmt::Formatter<W>) -> fmt::Result {
         let Tally {

@@ -31,6 +31,7 @@ fn before_point(heap: Global, point: usize, reader: &mut Reader) -> Result<Strin
     if point == 0 {
         return format!(in heap; "before the first entry");
     }
+    // The bytes were taken, so an entry is there; that stands in no type here.
     let Ok(Some(entry)) = reader.next() else {
         return format!(in heap; "after entry {point}");
     };
@@ -43,6 +44,7 @@ impl<S: ImageStore> Taken<S> {
     fn report_sectors(&self, rt: &HostRuntime, point: usize) -> Result<(), Failed>
         requires { point ≤ length (effects_of self.now.trace) }
     {
+        // By number: a store lends no slice of its sectors.
         for sector in 0..self.base.count() {
             let numbers = candidates_of(&self.trace, &self.base, sector, point).unwrap();
             if numbers.values().len() > 1 {
@@ -72,6 +74,7 @@ impl<S: ImageStore> Taken<S> {
         let mut reader = Reader::open(bytes).map_err(|why| program.declined(why.code(), why))?;
         let mut all = 0u64;
         let mut widest = 0;
+        // Points are named by number.
         for point in 0..=self.trace.len() {
             let before = before_point(rt.alloc(), point, &mut reader)?;
             let states = self.report_point(rt, point, before.as_str())?;
