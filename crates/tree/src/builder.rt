@@ -16,7 +16,7 @@ pub struct Builder {
     ghost sound: { ((k : ℕ) → k < length nodes.items → allowed nodes.items k (slice_index_or nodes.items k Absent) ≡ true) },
 }
 
-// By hand: no derive makes a copy of a type with an invariant.
+// By hand: of a type with an invariant `Clone` is derived only beside `Copy`.
 impl Clone for Builder {
     ghost is_clone = { λ b c. c.nodes.items ≡ b.nodes.items };
 
