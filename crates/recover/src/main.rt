@@ -47,6 +47,7 @@ fn recover_files<F: FileSystem>(
     out: &str,
 ) -> Result<(), Failed> {
     let mut input = program.read("image", path)?;
+    // As in `recover_cases`: one function for both would take the same four things.
     let mut image = input.bytes.clone()?;
     let mut tree = Tree::bare();
     let answer = recover_apart(

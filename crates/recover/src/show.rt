@@ -15,6 +15,7 @@ pub fn show_outcome(
     rt.print(lines.as_str())?;
     if let Err(fault) = answer {
         let (number, place) = fault.code();
+        // Not by `refused`: an image that holds no tree is no failure of the program.
         eprintln!(rt; "recover: the image holds no tree, fault {number}, place {place}: {fault}")?;
     }
     Ok(())

@@ -77,6 +77,7 @@ impl fmt::Display for Tally {
 fn show_all(program: &Program, bytes: &[u8]) -> Result<Tally, Failed> {
     let rt = program.rt;
     let mut all = Tally::default();
+    // By the reader: the iterator is `patch`'s own, and would be a public type for this one loop.
     let mut reader = Reader::open(bytes).map_err(|why| program.declined(why.code(), why))?;
     while let Some(entry) = reader
         .next()

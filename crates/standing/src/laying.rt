@@ -22,7 +22,7 @@ impl Choice {
         ensures { Entry (recording_of (S.ImageStore.sectors base.now) trace.now) point result }
     {
         let mut choice = Choice::new();
-        // By number: a store lends no slice of its sectors.
+        // By number: a loop over the picks, with their numbers, was tried, and the proof did not close.
         for s in 0..base.count() {
             choice.picks[s].candidates = candidates_of(trace, base, s, point)?;
         }
@@ -43,7 +43,7 @@ impl Choice {
         ensures shaped { Shaped (S.ImageStore.sectors state.old.below) }
         ensures image { (test : ℕ → Bool) → ((s : ℕ) (pick : Pick) (b : Bool) → HasPick self.now s pick → FnReturnsAt F.Fn due pick b → b ≡ test s) → Put test (chosen (recording_of (S.ImageStore.sectors state.old.below) trace.now) self.now) first (length (S.ImageStore.sectors state.old.below)) (shown S.ImageStore.sectors state.old) (shown S.ImageStore.sectors state.new) }
     {
-        // By number: a store lends no slice of its sectors.
+        // By number: it names the sector of the store, and its pick.
         for s in first..state.below.count() {
             let pick = &self.picks[s];
             if due(pick) {
