@@ -5,7 +5,7 @@ use history::CELLS;
 use std::alloc::AllocError;
 
 /// At most eight values, in order. (`arrayvec::ArrayVec<T, 8>` is not `Copy` and asks for a
-/// default value: no `Copy` array could hold such lists.)
+/// default value: no `Copy` array could hold such lists; and a `History` has its cells lent.)
 pub struct Few<T> {
     pub(crate) cells: [T; CELLS],
     pub(crate) used: usize,

@@ -60,7 +60,7 @@ fn lay_word<S: ImageStore>(
     builder.lay(meaning(image, said))
 }
 
-// The tree handed to `recover`: a rule, as there.
+// Handed on from `recover`, which is handed the tree by a rule: an answer would only be put there.
 /// Reads the tree. On a fault `tree` is as it was.
 pub fn read_tree<S: ImageStore>(image: &S, lowest: usize, tree: &mut Tree) -> Result<(), Fault>
     ensures told { told result tree.new.nodes ≡ tree_of lowest (S.sectors image.now) }

@@ -11,6 +11,7 @@ use Rattle.journalled.specs.Below.{every, every_more, every_fails}
 use Rattle.journalled.specs.Journal.{size_in, home_in, homes_in, home_stands, apart, homes_stand, descriptor, stands, copied}
 use Rattle.journalled.specs.Copies.{home_inside, step}
 
+-- the library's cond_some is the second with its sides changed, to be turned round at each use; the first it has in no public lemma
 none_is : (b : Bool) (n : ℕ) → None ≡ cond b (Some n) None → b ≡ false
 none_is true n e = cc
 none_is false n e = refl

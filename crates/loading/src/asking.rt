@@ -29,6 +29,7 @@ fn is_too_much(header: &Header, used: u64) -> bool
     used > MOST_DATA || header.data_sectors() > MOST_DATA - used
 }
 
+// Three numbers of three things (the entry, the data sectors before it, the image): a struct would be made for one call.
 /// The mark of an entry, or why it is declined: for its text, its sectors, its data.
 pub fn ask(header: &Header, number: u64, used: u64, count: u64) -> Result<Mark, Refusal>
     ensures { result ≡ answered header.now number used count }

@@ -110,6 +110,7 @@ among_there (suc n) k f l h = elim (cases_eq k n) [
 ]
 
 -- HEXADECIMAL DIGITS read back.
+-- of the digit_value of Found; Unique says it of the library's, which is another function
 digit_back : (d : ℕ) → d < 16 → digit_value (digit_char d) ≡ d
 digit_back d h = elim (cases_lt d 10) [
   | inl l ↦ ap (λ b. digit_value (cond b (48 + d) (87 + d))) (lt-ltb d 10 l) ∙ ap (λ b. cond b (48 + d - 48) (48 + d - 87)) (lt-ltb (48 + d) 58 (omega arith)) ∙ omega arith

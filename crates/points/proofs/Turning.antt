@@ -2,6 +2,7 @@
 use Rattle.std.proofs.Common.{◌≡◌, ℕ, zero, suc, ◌+◌, ◌-◌, ◌<◌, ◌≤◌, Bool, true, false, cond, ltb, List, [], ◌∷◌, ◌++◌, map, length, get_or, take, drop, set, Some, None, sym, refl, ap, ◌∙◌, subst, arith}
 use Rattle.std.proofs.lemmas.List.{append-nil, append_assoc, take_all, drop_all, drop_more, take_more, set_at, get_or_at, length-take-le, take_at, drop_at, length-append, length-drop}
 use Rattle.std.proofs.lemmas.Bool.{lt-ltb, le-ltb}
+use Rattle.std.proofs.lemmas.Simd.{splat_is_map}
 use Rattle.crash.specs.Ranks.{up, next}
 use Rattle.points.specs.Moving.{ChangedFrom}
 
@@ -9,10 +10,7 @@ abbrev zeros : List ℕ → List ℕ
 zeros counts = map (λ _. 0) counts
 
 zeros_same : (xs ys : List ℕ) → length xs ≡ length ys → zeros xs ≡ zeros ys
-zeros_same [] [] e = refl
-zeros_same [] (y ∷ ys) e = absurd (omega arith)
-zeros_same (x ∷ xs) [] e = absurd (omega arith)
-zeros_same (x ∷ xs) (y ∷ ys) e = ap (λ l. 0 ∷ l) (zeros_same xs ys (omega arith))
+zeros_same xs ys e = sym (splat_is_map xs (length ys) 0 e) ∙ splat_is_map ys (length ys) 0 refl
 
 -- the places from i on had no room, and are back at 0
 pub record Turning (counts before : List ℕ) (i : ℕ) (after : List ℕ) : Type 0 where

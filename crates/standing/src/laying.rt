@@ -43,11 +43,9 @@ impl Choice {
         ensures shaped { Shaped (S.ImageStore.sectors state.old.below) }
         ensures image { (test : ℕ → Bool) → ((s : ℕ) (pick : Pick) (b : Bool) → HasPick self.now s pick → FnReturnsAt F.Fn due pick b → b ≡ test s) → Put test (chosen (recording_of (S.ImageStore.sectors state.old.below) trace.now) self.now) first (length (S.ImageStore.sectors state.old.below)) (shown S.ImageStore.sectors state.old) (shown S.ImageStore.sectors state.new) }
     {
-        // By number: it names the sector of the store, and its pick.
-        for s in first..state.below.count() {
-            let pick = &self.picks[s];
+        for (i, pick) in self.picks[first..state.below.count()].iter().enumerate() {
             if due(pick) {
-                put(trace, state, s, pick.number());
+                put(trace, state, first + i, pick.number());
             }
         }
     }
