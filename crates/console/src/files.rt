@@ -30,26 +30,37 @@ impl Program<'_> {
         )))
     }
 
-    /// Writes `bytes` to `out`, unless that would write to the file `input`.
-    pub fn write_beside(&self, input: &Input, out: &str, bytes: &[u8]) -> Result<(), Failed> {
-        if input.may_be(self.rt, out) {
-            self.free_name(input, out)?;
+    /// Writes `bytes` to `out`, unless that names one of the files `inputs`: then nothing is written
+    /// and the name is refused. A link to an input is replaced, and the input stays as it is.
+    pub fn write_beside(&self, inputs: &[Input], out: &str, bytes: &[u8]) -> Result<(), Failed> {
+        let rt = self.rt;
+        if inputs.iter().any(|input| input.may_be(rt, out)) {
+            let aside = self.put_aside(out)?;
+            for input in inputs {
+                if !fs::exists(rt, input.path).unwrap_or(false) {
+                    fs::rename(rt, aside.as_str(), out)?;
+                    let path = input.path;
+                    return Err(self.refused(format_args!(
+                        "{out} is the input {path}; name another file for the output"
+                    )));
+                }
+            }
+            fs::remove_file(rt, aside.as_str())?;
         }
         self.write(out, bytes)
     }
 
-    /// Takes the name `out` away from its file, unless it names the file `input`: then the name
-    /// stays, and is refused. A link to the input is taken away, and the input stays as it is.
-    fn free_name(&self, input: &Input, out: &str) -> Result<(), Failed> {
+    /// Gives the file `out` another name for a moment, and answers that name.
+    fn put_aside(&self, out: &str) -> Result<String, Failed> {
         let rt = self.rt;
         let aside = format!(in rt.alloc(); "{out}.renamed-to-compare")?;
-        fs::rename(rt, out, aside.as_str())?;
-        if fs::exists(rt, input.path)? {
-            fs::remove_file(rt, aside.as_str())?;
-            return Ok(());
+        if fs::exists(rt, aside.as_str())? {
+            return Err(self.refused(format_args!(
+                "{aside} is in the way; remove it, or name another file for the output"
+            )));
         }
-        fs::rename(rt, aside.as_str(), out)?;
-        Err(self.refused(format_args!("{out} is the input; name another file for the output")))
+        fs::rename(rt, out, aside.as_str())?;
+        Ok(aside)
     }
 }
 

@@ -57,7 +57,7 @@ fn recover_files<F: FileSystem>(
         &mut tree,
     );
     show_outcome(program, answer, &tree)?;
-    program.write_beside(&input, out, image.as_slice())
+    program.write_beside(&[input], out, image.as_slice())
 }
 
 /// Recovers by the file system that the first word names.

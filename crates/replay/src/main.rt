@@ -121,7 +121,7 @@ fn replay_files(program: Program, words: [String; 3]) -> Result<(), Failed> {
         base.bytes.as_mut_slice(),
         image.as_mut_slice(),
     )?;
-    program.write_beside(&base, out.as_str(), image.as_slice())
+    program.write_beside(&[recording, base], out.as_str(), image.as_slice())
 }
 
 // An `Err` from main would be printed, and its reason stands on standard error already.
