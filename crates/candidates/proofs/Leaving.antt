@@ -3,6 +3,7 @@ use Rattle.std.proofs.Common.{◌≡◌, ℕ, zero, suc, ◌+◌, ◌<◌, ◌�
 use Rattle.std.specs.Str.{bytes_eq}
 use Rattle.std.proofs.lemmas.List.Elements.{filter-append}
 use Rattle.std.proofs.lemmas.List.{take_more, length-take-le, append-nil}
+use Rattle.std.proofs.lemmas.List.Sums.{length-filter, count_by-le-length}
 use Rattle.image.specs.Sectors.{Sector}
 use Rattle.crash.specs.Lists.{firsts}
 use Rattle.crash.specs.Rules.{Recording, written}
@@ -37,19 +38,13 @@ module _ (value : ℕ → List ℕ) where
   pub firsts_leaves : (ks : List ℕ) (i : ℕ) → i < length ks → repeated value (take i ks) (get_or ks i 0) ≡ true → firsts value (take (i + 1) ks) ≡ firsts value (take i ks)
   firsts_leaves ks i h e = firsts_more ks i h ∙ ap (λ b. firsts value (take i ks) ++ cond b [] (get_or ks i 0 ∷ [])) e ∙ append-nil (firsts value (take i ks))
 
-  length_kept : (test : ℕ → Bool) (ks : List ℕ) → length (filter test ks) ≤ length ks
-  length_kept test [] = omega arith
-  length_kept test (k ∷ ks) = go (test k) (length_kept test ks)
-    where
-      go : (b : Bool) → length (filter test ks) ≤ length ks → length (cond b (k ∷ filter test ks) (filter test ks)) ≤ suc (length ks)
-      go true h = omega arith
-      go false h = omega arith
-
   pub length_firsts : (ks : List ℕ) → length (firsts value ks) ≤ length ks
   length_firsts [] = omega arith
   length_firsts (k ∷ ks) =
-      let a = length_kept (λ j. not (bytes_eq (value k) (value j))) (firsts value ks) in
-      let b = length_firsts ks in
+      let test : ℕ → Bool = λ j. not (bytes_eq (value k) (value j)) in
+      let a = length-filter test (firsts value ks) in
+      let b = count_by-le-length test (firsts value ks) in
+      let c = length_firsts ks in
       omega arith
 
 -- there is room for one number more

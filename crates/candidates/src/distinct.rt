@@ -11,7 +11,8 @@ use crate::sectors::gather;
 use image::{ImageStore, fetch};
 use trace::Trace;
 
-// Trace, base and sector name a content for the two functions here alone: a struct would be made for one call.
+// Trace, base and sector name a content, here and in `standing`. A closure from number to content would bring a type
+// parameter and a `requires` into both functions here, and a struct would be made for one call.
 /// Whether the content of a number equals that of one of the numbers before it.
 fn is_repeated(trace: &Trace, base: &[u8], sector: usize, earlier: &[usize], number: usize) -> bool
     ensures { result ≡ is_repeated_at (content_at base.now (effects_of trace.now) sector) earlier.now number }

@@ -4,8 +4,8 @@ ghost use Rattle.std.specs.Prelude.{◌≡◌, ◌≤◌, ⊤, length};
 use history::CELLS;
 use std::alloc::AllocError;
 
-/// At most eight values, in order. (`arrayvec::ArrayVec<T, 8>` is not `Copy` and asks for a
-/// default value: no `Copy` array could hold such lists; and a `History` has its cells lent.)
+/// At most eight values, in order. (Neither an `arrayvec::ArrayVec<T, 8>`, which is not `Copy` and asks
+/// for a default value, so that no `Copy` array could hold such lists; nor a `History`, whose cells are lent, by a rule.)
 pub struct Few<T> {
     pub(crate) cells: [T; CELLS],
     pub(crate) used: usize,

@@ -23,7 +23,8 @@ impl Refusal {
     pub fn code(&self) -> (u64, u64)
         ensures { result ≡ code_of self.now }
     {
-        // The rules number the conditions; `u64` has no `From<usize>`.
+        // The rules number the conditions; nothing is generic over refusals, so no trait says `code` for all of them.
+        // `u64` has no `From<usize>`.
         match self {
             Refusal::SectorNumber => (2, 0),
             Refusal::Candidates { point } => (13, *point as u64),

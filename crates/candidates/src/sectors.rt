@@ -13,6 +13,8 @@ use crate::turns::Turn;
 use crate::walk::walk;
 use trace::Trace;
 
+// A trace goes beside a sector or a point, here and above: one of the two changes from call to call, and a pair would
+// be made anew for each.
 /// What entry `number` does to the history of a sector.
 fn turn(trace: &Trace, sector: usize, number: usize) -> Turn<usize>
     ensures { (base : Image) (held : List ℕ) → turned result held ≡ turn_by (effect_at (recording_of base trace.now) number) sector number held }

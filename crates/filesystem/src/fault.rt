@@ -26,7 +26,7 @@ pub enum Fault {
 }
 
 impl Fault {
-    // The rules number the faults.
+    // The rules number the faults; nothing is generic over what has a number, so no trait says `code`.
     /// The fault's number and its place.
     pub fn code(&self) -> (u32, u32)
         ensures { result ≡ code_of self.now }

@@ -16,7 +16,7 @@ pub fn check_head<S: ImageStore>(image: &S, least: usize, format: u32) -> Result
     if count < least || word_at(&sector, 0) != format {
         return Err(Fault::Format);
     }
-    // At most 64 sectors: the cast loses no bit.
+    // At most 64 sectors: the cast is proved to lose no bit; a `try_from` would need an answer for what cannot be.
     if !is_word(word_at(&sector, 1), 2, count as u32) {
         return Err(Fault::Count);
     }

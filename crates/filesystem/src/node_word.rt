@@ -20,7 +20,7 @@ impl NodeWord {
     pub fn read(word: u32) -> Option<NodeWord>
         ensures { MatchOption result ((said : NodeWord) → Says said word → ⊥) (λ said. Says said word) }
     {
-        // No cast loses a bit: each is of a remainder that its type holds.
+        // No cast loses a bit: each is of a remainder that its type holds, and no `From` knows that it is one.
         let parent = ((word >> 26) % 16) as u8;
         match kind_of(word) {
             0 if word == 0 => Some(NodeWord::Absent),

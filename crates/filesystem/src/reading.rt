@@ -60,7 +60,7 @@ fn lay_word<S: ImageStore>(
     builder.lay(meaning(image, said))
 }
 
-// Handed on from `recover`, which is handed the tree by a rule: an answer would only be put there.
+// Both callers hand on the tree that `recover` is handed, by a rule: an answer would only be put there.
 /// Reads the tree. On a fault `tree` is as it was.
 pub fn read_tree<S: ImageStore>(image: &S, lowest: usize, tree: &mut Tree) -> Result<(), Fault>
     ensures told { told result tree.new.nodes ≡ tree_of lowest (S.sectors image.now) }
@@ -68,7 +68,7 @@ pub fn read_tree<S: ImageStore>(image: &S, lowest: usize, tree: &mut Tree) -> Re
 {
     let sector = fetch(image, 1);
     let mut builder = Builder::new();
-    // Nodes are named by number, a byte; there are 16.
+    // Nodes are named by number, a byte; `NODES` counts what arrays hold, and `u8` has no `From<usize>`.
     for k in 0..NODES as u8 {
         let fault = Fault::NodeWord { node: k };
         lay_word(image, lowest, word_at(&sector, k), &mut builder).map_err(|_| fault)?;

@@ -20,7 +20,7 @@ impl Refusal {
     pub fn code(&self) -> (u32, u32)
         ensures { result ≡ code_of self.now }
     {
-        // The rules number the conditions.
+        // The rules number the conditions; nothing is generic over refusals, so no trait says `code` for all of them.
         match self {
             Refusal::Cells => (1, 0),
             Refusal::Full => (13, 0),

@@ -14,7 +14,8 @@ use crate::{MOST, SECTOR};
 #[derive(Drop)]
 pub struct Overlay<S> {
     pub below: S,
-    // One bit for each sector that is held: a rule of the project.
+    // One bit for each sector that is held, as docs/DECISIONS.md has it (Stores): `held` is its count of ones. An
+    // array of Options would need as many tags, and `held` a count of them.
     written: u64,
     // Not `[[u8; 512]; 64]`: it needs a ghost field, and with it an overlay over an overlay on a flat store has no proof.
     cells: [u8; SECTOR * MOST],

@@ -16,7 +16,7 @@ pub enum Refusal {
 }
 
 impl Refusal {
-    // The rules number the conditions.
+    // The rules number the conditions; nothing is generic over refusals, so no trait says `code` for all of them.
     /// The number and the place of this refusal.
     pub fn code(&self) -> (u32, u32)
         ensures { result ≡ code_of self.now }

@@ -12,8 +12,8 @@ pub trait ImageStore {
     // The sectors that the store means.
     ghost sectors: { Self → Image };
 
-    // What no write through this store changes. Each function that writes says it in a clause, since no type
-    // relates a store before a call to the store after it.
+    // What no write through this store changes. Each function that writes says it in a clause, of an overlay as
+    // `below`, since no type relates a store before a call to the store after it.
     ghost keeps: { Self → Self → Type 0 };
 
     ghost stays: { (s : Self) → keeps s s };

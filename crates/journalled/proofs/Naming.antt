@@ -4,6 +4,8 @@ use Rattle.std.specs.List.{range_with_len, list_any}
 use Rattle.std.proofs.lemmas.List.FromFn.{map-range_with_len_more, length-map-range_with_len, get_or-map-range_with_len}
 use Rattle.std.proofs.lemmas.List.Folds.{list_any-append}
 use Rattle.std.proofs.lemmas.Bool.{and_from, and_left, and_right}
+use Rattle.std.proofs.lemmas.Option.{cond_some}
+use Rattle.std.proofs.Math.Bool.{or-false}
 use Rattle.image.specs.Sectors.{Sector, Image}
 use Rattle.image.specs.Fetched.{sector_of}
 use Rattle.filesystem.specs.Words.{word_at, kind, rest}
@@ -11,14 +13,10 @@ use Rattle.journalled.specs.Below.{every, every_more, every_fails}
 use Rattle.journalled.specs.Journal.{size_in, home_in, homes_in, home_stands, apart, homes_stand, descriptor, stands, copied}
 use Rattle.journalled.specs.Copies.{home_inside, step}
 
--- the library's cond_some is the second with its sides changed, to be turned round at each use; the first it has in no public lemma
+-- no public lemma of the library says it
 none_is : (b : Bool) (n : ℕ) → None ≡ cond b (Some n) None → b ≡ false
 none_is true n e = cc
 none_is false n e = refl
-
-one_stands : (b : Bool) (m n : ℕ) → Some m ≡ cond b (Some n) None → (b ≡ true) × (m ≡ n)
-one_stands true m n e = (refl, cc)
-one_stands false m n e = (cc, cc)
 
 -- a home is among those before it where it is not apart
 module _ (f : ℕ → ℕ) (h : ℕ) where
@@ -35,12 +33,8 @@ module _ (f : ℕ → ℕ) (h : ℕ) where
       ∙ ap (list_any (λ y. eqb y h)) (map-range_with_len_more f 0 i i (omega arith))
       ∙ list_any-append (λ y. eqb y h) (map f (range_with_len 0 i)) (f i ∷ [])
       ∙ ap (λ b. b || list_any (λ y. eqb y h) (f i ∷ [])) (among i)
-      ∙ ap (λ b. not (every (λ j. not (eqb (f j) h)) i) || b) (last (eqb (f i) h))
+      ∙ ap (λ b. not (every (λ j. not (eqb (f j) h)) i) || b) (or-false (eqb (f i) h))
       ∙ neither (every (λ j. not (eqb (f j) h)) i) (eqb (f i) h)
-    where
-      last : (b : Bool) → (b || false) ≡ b
-      last true = refl
-      last false = refl
 
 -- the test of a home's word
 abbrev test : (count word : ℕ) → Bool
@@ -58,11 +52,14 @@ module _ (count i : ℕ) (d : Sector) (homes : List ℕ) (kept : homes ≡ map (
   no_home n l e = every_fails each n i l (and_left (home_stands count d i) (apart d i) (sym home_is ∙ none_is (test count w) (rest w) e))
 
   module _ (h : ℕ) (e : Some h ≡ cond (test count w) (Some (rest w)) None) where
+    found : (test count w ≡ true) × (rest w ≡ h)
+    found = cond_some (test count w) (rest w) h (sym e)
+
     it_stands : home_stands count d i ≡ true
-    it_stands = sym home_is ∙ (one_stands (test count w) h (rest w) e).0
+    it_stands = sym home_is ∙ found.0
 
     it_is : h ≡ home_in d i
-    it_is = (one_stands (test count w) h (rest w) e).1 ∙ ap rest is
+    it_is = sym found.1 ∙ ap rest is
 
     apart_is : (b : Bool) → b ≡ list_any (λ y. eqb y h) homes → apart d i ≡ not b
     apart_is b q = back b (apart d i) (q ∙ ap (λ x. list_any (λ y. eqb y x) homes) it_is ∙ ap (list_any (λ y. eqb y (home_in d i))) kept ∙ among (home_in d) (home_in d i) i)

@@ -34,7 +34,7 @@ fn read_homes(count: usize, sector: &[u8; SECTOR], size: usize) -> Option<Homes>
     let mut homes = Homes::new();
     // A loop: each home is compared with those before it, and one that does not stand ends it.
     for i in 0..size {
-        // At most six homes: the cast loses no bit.
+        // At most six homes: the cast is proved to lose no bit, and `u8` has no `From<usize>`.
         let home = home_in(count, word_at(sector, 2 + i as u8))?;
         if homes.contains(&home) {
             return None;

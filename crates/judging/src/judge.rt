@@ -31,13 +31,14 @@ impl Values {
     pub fn judge(&self, tree: &Tree) -> Judgement
         ensures { code_of result ≡ judgement (values_in self.now) (a_tree tree.now.nodes) }
     {
-        // Nodes are named by a u8; there are 16.
+        // Nodes are named by a u8; `NODES` counts what arrays hold, and `u8` has no `From<usize>`.
         (0..NODES as u8)
             .find(|node| !self.admits(tree, usize::from(*node)))
             .map_or(Judgement::Admitted, |node| Judgement::Unadmitted { node })
     }
 }
 
+// `below` relates the overlay before to the one after, which no type does.
 /// Recovers the image of the overlay, judges the tree, and drops what recovery wrote.
 pub fn judge_state<S: ImageStore, F: FileSystem>(
     fs: &F,

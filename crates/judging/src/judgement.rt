@@ -20,7 +20,7 @@ impl Judgement {
     pub fn code(&self) -> (u32, u32)
         ensures { result ≡ code_of self.now }
     {
-        // The rules number the outcomes.
+        // The rules number the outcomes; nothing is generic over what has a number, so no trait says `code`.
         match self {
             Judgement::Admitted => (0, 0),
             Judgement::Unadmitted { node } => (1, u32::from(*node)),

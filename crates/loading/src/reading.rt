@@ -24,7 +24,7 @@ fn next_entry<'a>(
     let Some(header) = reader.header()? else {
         return Ok(None);
     };
-    // The reader tells counts: a public number of the next entry would need that one is left.
+    // By `taken` it was tried: no clause bounds a reader's total, and the proof that one more fits did not close.
     let number = reader.total() - reader.left() + 1;
     let mark = ask(&header, number, *used, count)?;
     let entry = reader.next()?.unwrap();

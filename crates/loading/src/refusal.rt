@@ -27,7 +27,7 @@ pub enum Refusal {
 }
 
 impl Refusal {
-    // The rules number the conditions.
+    // The rules number the conditions; nothing is generic over refusals, so no trait says `code` for all of them.
     /// The number and the place of this refusal; want of memory has none.
     pub fn code(&self) -> Option<(u64, u64)>
         ensures { result ≡ code_of self.now }
@@ -42,7 +42,7 @@ impl Refusal {
     }
 }
 
-// By hand, as the next: a derived `From` has no contract, and clauses name the case.
+// By hand: a derived `From` has no contract, and clauses name the case.
 impl From<recording::Refusal> for Refusal {
     ghost from_gives = { λ f r. r ≡ Recording f };
 
@@ -51,6 +51,7 @@ impl From<recording::Refusal> for Refusal {
     }
 }
 
+// By hand: a derived `From` keeps what failed, and `Memory` has no field.
 impl From<AllocError> for Refusal {
     ghost from_gives = { λ _ r. r ≡ Memory };
 

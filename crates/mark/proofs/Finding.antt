@@ -1,10 +1,8 @@
 -- The mark that is found is the one that spells the text.
-use Rattle.std.proofs.Common.{◌≡◌, ℕ, zero, suc, ◌+◌, ◌-◌, ◌*◌, ◌/◌, ◌%◌, ◌^◌, ◌<◌, true, cond, ◌&&◌, ltb, leb, List, [], ◌∷◌, ◌++◌, length, drop, Some, None, codes, decimal, Option, sym, refl, ap, ◌∙◌, subst, inl, inr, append_assoc, pow-suc, arith}
+use Rattle.std.proofs.Common.{◌≡◌, ℕ, zero, suc, ◌+◌, ◌-◌, ◌/◌, ◌%◌, ◌^◌, ◌<◌, true, cond, ◌&&◌, ltb, leb, List, [], ◌∷◌, ◌++◌, length, drop, Some, None, codes, decimal, Option, sym, refl, ap, ◌∙◌, subst, inl, inr, append_assoc, arith}
 use Rattle.std.specs.Char.{digit_char}
 use Rattle.std.specs.Str.{bytes_eq}
 use Rattle.std.proofs.lemmas.Slice.Eq.{bytes_eq-Decides}
-use Rattle.std.proofs.lemmas.List.Sums.{fold_push}
-use Rattle.std.proofs.lemmas.Nat.{div_below, mod_below}
 use Rattle.std.proofs.lemmas.List.{length-append, drop_at}
 use Rattle.std.proofs.lemmas.Bool.{cases_lt, cases_eq, cases_Bool, and_parts, and_from, or_cases, or_left, or_right, leb-true, ltb-true, eqb-true, le-leb, lt-ltb, le-ltb, false≢true}
 use Rattle.tree.specs.Hex.{hexes}
@@ -12,7 +10,7 @@ use Rattle.mark.specs.declared.mark.Mark.{Mark}
 use Rattle.mark.specs.declared.mark.Mark.TheVariants.{File, Directory, Absent, Sync, Comment}
 use Rattle.mark.specs.Marks.{Spells, Finds, spaced}
 use Rattle.mark.specs.Found.{is_note, spells, whether, either, among, digit_value, hex_value, last_print, mark_of, TheMark}
-use Rattle.mark.proofs.Unique.{one}
+use Rattle.mark.proofs.Unique.{back, one}
 
 -- THE TEST decides what a mark spells.
 note_is : (t : List ℕ) → is_note t ≡ true → (rest : List ℕ) × (t ≡ 35 ∷ rest)
@@ -110,21 +108,12 @@ among_there (suc n) k f l h = elim (cases_eq k n) [
 ]
 
 -- HEXADECIMAL DIGITS read back.
--- of the digit_value of Found; Unique says it of the library's, which is another function
+-- one digit, of the digit_value of Found; the library says it of its own, which is another function
 digit_back : (d : ℕ) → d < 16 → digit_value (digit_char d) ≡ d
 digit_back d h = elim (cases_lt d 10) [
   | inl l ↦ ap (λ b. digit_value (cond b (48 + d) (87 + d))) (lt-ltb d 10 l) ∙ ap (λ b. cond b (48 + d - 48) (48 + d - 87)) (lt-ltb (48 + d) 58 (omega arith)) ∙ omega arith
   | inr g ↦ ap (λ b. digit_value (cond b (48 + d) (87 + d))) (le-ltb d 10 g) ∙ ap (λ b. cond b (87 + d - 48) (87 + d - 87)) (le-ltb (87 + d) 58 (omega arith)) ∙ omega arith
 ]
-
-hex_back : (k n : ℕ) → n < 16 ^ k → hex_value (hexes k n) ≡ n
-hex_back zero n h = let l : n < 1 = h in omega arith
-hex_back (suc k) n h =
-    let l : n < 16 ^ k * 16 = rw pow-suc at h in
-    let i = hex_back k (n / 16) (div_below n 16 (16 ^ k) (omega arith) l) in
-    let d = digit_back (n % 16) (mod_below n 16 (omega arith)) in
-    fold_push (λ v c. v * 16 + digit_value c) 0 (hexes k (n / 16)) (digit_char (n % 16))
-    ∙ ap (λ v. v * 16 + digit_value (digit_char (n % 16))) i ∙ ap (λ v. n / 16 * 16 + v) d ∙ omega arith
 
 length_hexes : (k n : ℕ) → length (hexes k n) ≡ k
 length_hexes zero n = refl
@@ -134,7 +123,7 @@ length_hexes (suc k) n = length-append (hexes k (n / 16)) (digit_char (n % 16) �
 pub print_back : (front : List ℕ) (h : ℕ) → h < 2 ^ 32 → last_print (front ++ hexes 8 h) ≡ h
 print_back front h l =
     let n : length (front ++ hexes 8 h) - 8 ≡ length front = let e = length-append front (hexes 8 h) in let f = length_hexes 8 h in omega arith in
-    ap (λ i. hex_value (drop i (front ++ hexes 8 h))) n ∙ ap hex_value (drop_at front (hexes 8 h) (length front) refl) ∙ hex_back 8 h l
+    ap (λ i. hex_value (drop i (front ++ hexes 8 h))) n ∙ ap hex_value (drop_at front (hexes 8 h) (length front) refl) ∙ back digit_value digit_back 8 h l
 
 -- the text of a file's mark is such a text
 file_front : List ℕ → List ℕ → List ℕ → List ℕ

@@ -4,7 +4,7 @@ use Rattle.std.specs.Int.{IsInRange}
 use Rattle.std.specs.Char.{digit_char, digit_value}
 use Rattle.std.proofs.lemmas.List.Sums.{fold_push}
 use Rattle.std.proofs.lemmas.Bool.{cases_lt}
-use Rattle.std.proofs.lemmas.Bool.Decides.{nat_tests}
+use Rattle.std.proofs.lemmas.Str.{digit_value-digit_char}
 use Rattle.tree.specs.Hex.{hexes}
 use Rattle.mark.specs.declared.mark.Mark.{Mark}
 use Rattle.mark.specs.declared.mark.Mark.TheVariants.{File, Directory, Absent, Sync, Comment}
@@ -43,24 +43,23 @@ front_unique t v w r s f g =
 spaced_unique : (v w : ℕ) (r s : List ℕ) → spaced v r ≡ spaced w s → v < 1000 → w < 1000 → NoDigit r → NoDigit s → (v ≡ w) × (r ≡ s)
 spaced_unique v w r s e lv lw nr ns = front_unique (decimal v ++ r) v w r s (refl, lv, nr) (tail e, lw, ns)
 
--- eight hexadecimal digits write one number of 32 bits
-abbrev step : ℕ → ℕ → ℕ
-step x c = x * 16 + digit_value c
+-- k hexadecimal digits read back, by any function that reads one back
+module _ (value : ℕ → ℕ) (one_back : (d : ℕ) → d < 16 → value (digit_char d) ≡ d) where
+  pub back : (k n : ℕ) → n < 16 ^ k → fold (λ v c. v * 16 + value c) 0 (hexes k n) ≡ n
+  back zero n h = omega arith
+  back (suc k) n h =
+      let p : 16 ^ suc k ≡ 16 ^ k * 16 = pow-suc _ _ in
+      let l : n / 16 < 16 ^ k = omega arith in
+      let i : fold (λ v c. v * 16 + value c) 0 (hexes k (n / 16)) ≡ n / 16 = back k (n / 16) l in
+      let d : value (digit_char (n % 16)) ≡ n % 16 = one_back (n % 16) (omega arith) in
+      fold_push (λ v c. v * 16 + value c) 0 (hexes k (n / 16)) (digit_char (n % 16)) ∙ omega (arith, i, d)
 
-digit_back : (d : ℕ) → d < 16 → digit_value (digit_char d) ≡ d
-digit_back d h = grind (arith, nat_tests)
-
-back : (k n : ℕ) → n < 16 ^ k → fold step 0 (hexes k n) ≡ n
-back zero n h = omega arith
-back (suc k) n h =
-    let p : 16 ^ suc k ≡ 16 ^ k * 16 = pow-suc _ _ in
-    let l : n / 16 < 16 ^ k = omega arith in
-    let i : fold step 0 (hexes k (n / 16)) ≡ n / 16 = back k (n / 16) l in
-    let d : digit_value (digit_char (n % 16)) ≡ n % 16 = digit_back (n % 16) (omega arith) in
-    fold_push step 0 (hexes k (n / 16)) (digit_char (n % 16)) ∙ omega (arith, i, d)
+-- eight of them write one number of 32 bits
+read_back : (n : ℕ) → n < 2 ^ 32 → fold (λ v c. v * 16 + digit_value c) 0 (hexes 8 n) ≡ n
+read_back n l = back digit_value (λ d h. digit_value-digit_char d (omega arith)) 8 n l
 
 hex_unique : (a b : ℕ) → a < 2 ^ 32 → b < 2 ^ 32 → hexes 8 a ≡ hexes 8 b → a ≡ b
-hex_unique a b la lb e = sym (back 8 a la) ∙ ap (fold step 0) e ∙ back 8 b lb
+hex_unique a b la lb e = sym (read_back a la) ∙ ap (fold (λ v c. v * 16 + digit_value c) 0) e ∙ read_back b lb
 
 pub one : (t : List ℕ) (m n : Mark) → Spells m t → Spells n t → m ≡ n
 one t (File n p l h) (File n' p' l' h') (e, lo, hi, lt, top, wide) (e', lo', hi', lt', top', wide') =

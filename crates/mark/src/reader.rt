@@ -94,6 +94,7 @@ fn find(text: &[u8]) -> Option<Mark>
     ensures { Finds text.now result }
 {
     let (first, body) = text.split_first()?;
+    // The letters are the rules'.
     match char::from(*first) {
         'f' => file(body),
         'd' => directory(body),

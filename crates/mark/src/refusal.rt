@@ -13,7 +13,7 @@ pub enum Refusal {
 }
 
 impl Refusal {
-    // The rules number the conditions.
+    // The rules number the conditions; nothing is generic over refusals, so no trait says `code` for all of them.
     /// The number of this refusal; its place is the number of the entry, which the caller knows.
     pub fn code(&self) -> u32
         ensures { result ≡ code_of self.now }

@@ -14,6 +14,7 @@ fn first_outside(mut entries: Entries, count: u64) -> Option<u64>
 {
     entries
         .position(|entry| entry.extent().is_outside(count))
+        // No `From` leads from `usize` to `u64`; the cast is proved to lose no bit, here and below.
         .map(|place| place as u64 + 1)
 }
 

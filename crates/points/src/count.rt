@@ -1,5 +1,5 @@
 //! How many states the points of a recording have, and which points are declined.
-ghost use Rattle.std.specs.Prelude.{◌≡◌, ℕ, ◌*◌, ◌≤◌, min};
+ghost use Rattle.std.specs.Prelude.{◌≡◌, ℕ, ◌*◌, min};
 ghost use Rattle.trace.specs.Meaning.{recording_of, marks_of};
 ghost use Rattle.points.specs.Counting.{SectorsCounted, NodesChecked, Counted, Checked};
 
@@ -13,20 +13,17 @@ pub const MOST_STATES: u64 = 1_048_576;
 
 /// So many states times so many candidates; a number above the limit counts as the next after it.
 fn widened(states: u64, candidates: usize) -> u64
-    requires states { states ≤ 1048577 }
-    requires candidates { candidates ≤ 8 }
     ensures { result ≡ min (states * candidates) 1048577 }
 {
     // `u64` has no `From<usize>`.
-    (states * candidates as u64).min(MOST_STATES + 1)
+    states.saturating_mul(candidates as u64).min(MOST_STATES + 1)
 }
 
 /// The product of the sectors' numbers of candidates, counted up to one above the limit.
 fn sector_states<S: ImageStore>(trace: &Trace, base: &S, point: usize) -> Result<u64, Refusal>
     ensures { SectorsCounted (recording_of (S.ImageStore.sectors base.now) trace.now) point result }
 {
-    // By number, since a store lends no slice of its sectors; a fold would have to ask of its
-    // closure that the product so far is within the limit.
+    // By number, since a store lends no slice of its sectors; a `try_fold` was tried, and the proof did not close.
     let mut states = 1;
     for s in 0..base.count() {
         let few = candidates_of(trace, base, s, point)?;
@@ -48,7 +45,7 @@ fn check_nodes(trace: &Trace, point: usize) -> Result<(), Refusal>
 }
 
 // A recording is named by its trace and its base: the run holds the two apart, and would make a
-// pair of them for one call.
+// pair of them for one call. The point beside them changes from call to call.
 
 /// The number of states of a point. A sector or a node with more than 8 candidates, at the point
 /// or before it, comes before too many states.

@@ -30,7 +30,7 @@ impl Verdict {
     pub fn code(&self) -> u32
         ensures { result ≡ code_of self.now }
     {
-        // The rules number the verdicts.
+        // The rules number the verdicts; nothing is generic over what has a number, so no trait says `code`.
         *self as u32
     }
 }

@@ -21,7 +21,9 @@ pub struct Fields {
 }
 
 impl Fields {
-    // A slice: the one caller has what is left of the recording, and has asked for its length.
+    // A slice, and no array by `first_chunk`, which was tried: the definitions are of all that is left, and that its
+    // first sector says the same of each field and of the zeros takes a file of lemmas, for the one `requires` that
+    // would go.
     /// The numbers at the front of `rest`; none where the sector there breaks a rule.
     pub fn read(rest: &[u8]) -> Option<Fields>
         requires { 512 ≤ length rest.now }

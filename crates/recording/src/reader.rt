@@ -1,5 +1,5 @@
 //! The reader: it opens a recording and goes through it entry by entry.
-ghost use Rattle.std.specs.Prelude.{◌≡◌, ℕ, ◌+◌, ◌^◌, ◌<◌, ◌≤◌, length};
+ghost use Rattle.std.specs.Prelude.{◌≡◌, ℕ, ◌+◌, ◌-◌, ◌^◌, ◌<◌, ◌≤◌, length};
 ghost use Rattle.recording.specs.Heads.{head_faulty};
 ghost use Rattle.recording.specs.Reading.{ahead, next_number, Opening, HeaderFinding, Finding, FindingLaid, Heading, Stepping, Laid, Ending, item_seen, item_made, LiesFrom};
 
@@ -23,6 +23,8 @@ fn is_head_faulty(bytes: &[u8]) -> bool
         || !zeros(&bytes[28..SECTOR])
 }
 
+// Front, place and number, here and in the next two, are all the reader's; but the definitions speak of no reader,
+// and a method would take the three apart first.
 /// The header of entry `number`, at the front of `rest`.
 fn header_at<'a>(rest: &'a [u8], number: u64) -> Result<Header<'a>, Refusal>
     ensures { HeaderFinding number rest.now result }
@@ -116,12 +118,19 @@ impl<'a> Reader<'a> {
         })
     }
 
+    /// How many entries were taken: the number of the last one.
+    pub fn taken(&self) -> u64
+        ensures { result ≡ self.now.total - self.now.left }
+    {
+        self.total - self.left
+    }
+
     /// The number of the next entry.
     fn next_number(&self) -> u64
         requires { 0 < self.now.left }
         ensures { result ≡ next_number self.now }
     {
-        self.total - self.left + 1
+        self.taken() + 1
     }
 
     /// What is left of the recording.

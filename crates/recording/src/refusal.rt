@@ -25,7 +25,7 @@ pub enum Refusal {
 }
 
 impl Refusal {
-    // The rules number the conditions.
+    // The rules number the conditions; nothing is generic over refusals, so no trait says `code` for all of them.
     /// The number and the place of this refusal.
     pub fn code(&self) -> (u64, u64)
         ensures { result ≡ code_of self.now }

@@ -12,7 +12,6 @@ use plain::Plain;
 use recovery::recover_apart;
 use show::show_outcome;
 use std::process::ExitCode;
-use tree::Tree;
 
 const HELP: &str = "recover FILESYSTEM IMAGE OUT
 
@@ -47,21 +46,20 @@ fn recover_files<F: FileSystem>(
     out: &str,
 ) -> Result<(), Failed> {
     let mut input = program.read("image", path)?;
-    // As in `recover_cases`: one function for both would take the same four things.
     let mut image = input.bytes.clone()?;
-    let mut tree = Tree::bare();
+    // The two stores are made here, as in `recover_cases`: a function for both would be this one call.
     let answer = recover_apart(
         system,
         &mut Overlay::over(Flat::new(input.bytes.as_mut_slice())),
         &mut Flat::new(image.as_mut_slice()),
-        &mut tree,
     );
-    show_outcome(program, answer, &tree)?;
+    show_outcome(program, &answer)?;
     program.write_beside(&[input], out, image.as_slice())
 }
 
 /// Recovers by the file system that the first word names.
-// Each file system is a type of its own, so each name has its own call, here and in `recover_cases`.
+// `recover_apart` is generic and `LEAST` a constant, so there is no `dyn FileSystem`: each name has its own call,
+// here and in `recover_cases`.
 fn recover(program: Program, words: [String; 3]) -> Result<(), Failed> {
     let [name, path, out] = &words;
     match name.as_str() {

@@ -5,13 +5,9 @@ use recovery::outcome_lines;
 use tree::Tree;
 
 /// Prints the lines of an outcome, and on standard error what a fault means.
-pub fn show_outcome(
-    program: &Program,
-    answer: Result<(), Fault>,
-    tree: &Tree,
-) -> Result<(), Failed> {
+pub fn show_outcome(program: &Program, answer: &Result<Tree, Fault>) -> Result<(), Failed> {
     let rt = program.rt;
-    let lines = outcome_lines(rt.alloc(), answer, tree)?;
+    let lines = outcome_lines(rt.alloc(), answer)?;
     rt.print(lines.as_str())?;
     if let Err(fault) = answer {
         let (number, place) = fault.code();

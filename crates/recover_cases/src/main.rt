@@ -8,7 +8,6 @@ use journalled::Journalled;
 use plain::Plain;
 use recovery::{outcome_lines, recover_apart};
 use std::process::ExitCode;
-use tree::Tree;
 
 const HELP: &str = "recover_cases LIST
 
@@ -51,6 +50,8 @@ fn read_case(line: &str) -> Option<Case<'_>> {
     })
 }
 
+// The program and a case go together through three functions: the program is one for all cases, and a pair would be
+// made anew for each.
 /// The bytes of one of the case's files.
 fn read_part(program: &Program, case: Case, part: &str) -> Result<Vec<u8>, Failed> {
     let name = case.name;
@@ -63,14 +64,13 @@ fn agrees<F: FileSystem>(program: &Program, system: &F, case: Case) -> Result<bo
     let before = read_part(program, case, "img")?;
     let mut held = before.clone()?;
     let mut image = before.clone()?;
-    let mut tree = Tree::bare();
+    // The two stores are made here, as in `recover`: a function for both would be this one call.
     let answer = recover_apart(
         system,
         &mut Overlay::over(Flat::new(held.as_mut_slice())),
         &mut Flat::new(image.as_mut_slice()),
-        &mut tree,
     );
-    let lines = outcome_lines(program.rt.alloc(), answer, &tree)?;
+    let lines = outcome_lines(program.rt.alloc(), &answer)?;
     let wanted = read_part(program, case, "txt")?;
     let after = read_part(program, case, case.after)?;
     Ok(
@@ -81,7 +81,8 @@ fn agrees<F: FileSystem>(program: &Program, system: &F, case: Case) -> Result<bo
 }
 
 /// The same, by the file system that the case names.
-// Each file system is a type of its own, so each name has its own call, here and in `recover`.
+// `recover_apart` is generic and `LEAST` a constant, so there is no `dyn FileSystem`: each name has its own call,
+// here and in `recover`.
 fn agrees_named(program: &Program, case: Case) -> Result<bool, Failed> {
     match case.system {
         "j" => agrees(program, &Journalled, case),

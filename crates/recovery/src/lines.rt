@@ -1,6 +1,7 @@
 //! The lines that say what came of a recovery.
 ghost use Rattle.std.specs.Prelude.{◌≡◌, IfOk, string_bytes};
-ghost use Rattle.filesystem.specs.Outcomes.{told, code_of};
+ghost use Rattle.filesystem.specs.Outcomes.{code_of};
+ghost use Rattle.recovery.specs.Results.{outcome_of};
 ghost use Rattle.recovery.specs.Lines.{node_lines, pair_line, lines_of};
 
 use filesystem::Fault;
@@ -28,16 +29,12 @@ fn fault_line(heap: Global, fault: Fault) -> Result<String, AllocError>
     format!(in heap; "fault {number} {place}\n")
 }
 
-/// The lines of an answer, with the tree's nodes after it.
-pub fn outcome_lines(
-    heap: Global,
-    answer: Result<(), Fault>,
-    tree: &Tree,
-) -> Result<String, AllocError>
-    ensures { IfOk result (λ s. string_bytes s ≡ lines_of (told answer tree.now.nodes)) }
+/// The lines of a recovery's answer.
+pub fn outcome_lines(heap: Global, answer: &Result<Tree, Fault>) -> Result<String, AllocError>
+    ensures { IfOk result (λ s. string_bytes s ≡ lines_of (outcome_of answer.now)) }
 {
     match answer {
-        Ok(()) => tree_lines(heap, tree),
-        Err(fault) => fault_line(heap, fault),
+        Ok(tree) => tree_lines(heap, tree),
+        Err(fault) => fault_line(heap, *fault),
     }
 }

@@ -83,7 +83,7 @@ fn show_all(program: &Program, bytes: &[u8]) -> Result<Tally, Failed> {
         .next()
         .map_err(|why| program.declined(why.code(), why))?
     {
-        let number = reader.total() - reader.left();
+        let number = reader.taken();
         let text = entry_words(rt.alloc(), &entry)?;
         println!(rt; "{number}: {text}")?;
         all.count(&entry);

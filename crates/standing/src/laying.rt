@@ -22,13 +22,14 @@ impl Choice {
         ensures { Entry (recording_of (S.ImageStore.sectors base.now) trace.now) point result }
     {
         let mut choice = Choice::new();
-        // By number: a loop over the picks, with their numbers, was tried, and the proof did not close.
+        // By number: a loop over the front of the picks was tried, and after it nothing is known of all 64.
         for s in 0..base.count() {
             choice.picks[s].candidates = candidates_of(trace, base, s, point)?;
         }
         Ok(choice)
     }
 
+    // The clause `below`, here and in the next two: no type relates an overlay before a call to the one after it.
     /// Puts what the sectors from `first` on take onto an overlay, where that is due.
     fn put_due<S: ImageStore, F: Fn(&Pick) -> bool>(
         &self,

@@ -20,6 +20,7 @@ impl Pick {
         ensures { result ≡ slice_index (listed self.now.candidates) self.now.place }
     {
         let numbers = self.candidates.values();
+        // No Option: every state that is laid has a candidate at each place, so nobody asks whether there is one.
         numbers.get(self.place).copied().unwrap_or(0)
     }
 }
@@ -58,6 +59,7 @@ impl Choice {
         ensures candidates { candidates_in self.new ≡ candidates_in self.old }
         ensures places { places_in self.new ≡ places.now }
     {
+        // A zip of both was tried: its loop runs over an iterator of borrows, and the proof did not close.
         for (s, pick) in self.picks.iter_mut().enumerate() {
             pick.place = places[s];
         }

@@ -8,6 +8,7 @@ ghost use Rattle.standing.specs.Places.{replaced};
 use image::{ImageStore, Overlay, fetch};
 use trace::Trace;
 
+// `below` relates the overlay before to the one after, which no type does.
 /// Puts the content of a number onto a sector; without a whole content nothing changes.
 pub(crate) fn put<S: ImageStore>(
     trace: &Trace,
@@ -19,5 +20,6 @@ pub(crate) fn put<S: ImageStore>(
     ensures image { shown S.ImageStore.sectors state.new ≡ replaced (shown S.ImageStore.sectors state.old) sector (written (recording_of (S.ImageStore.sectors state.old.below) trace.now) sector number) }
 {
     let base = fetch(&state.below, sector);
+    // A content that is not whole is refused, and then nothing changes: that is the answer here.
     let _answer = state.write(sector, trace.content(&base, sector, number));
 }

@@ -31,7 +31,8 @@ fn before_point(heap: Global, point: usize, reader: &mut Reader) -> Result<Strin
     if point == 0 {
         return format!(in heap; "before the first entry");
     }
-    // The bytes were taken, so an entry is there; that stands in no type here.
+    // The bytes were taken, so an entry is there; a type that says so would relate reader, trace and point for this
+    // call alone.
     let Ok(Some(entry)) = reader.next() else {
         return format!(in heap; "after entry {point}");
     };
