@@ -121,10 +121,10 @@ module _ (s : Subject) (h : History) where
 pub decides : TheLawDecides
 decides s h e f b c L M q F G =
     let by-rule : Event → Event = λ x. predicted s h (call_of x) (refusal s (condition h) (call_of x)) (answer x) in
-    let E : e ≡ predicted s h (call_of e) (refusal s (condition h) (call_of e)) (answer e) = is_predicted s h e b F L ∙ ap (λ (r : Refusal). predicted s h (call_of e) r (answer e)) (L.declined_exactly h e (inl (refl, refl))) in
+    let E : e ≡ predicted s h (call_of e) (refusal s (condition h) (call_of e)) (answer e) = is_predicted s h e b F L ∙ ap (λ (r : Refusal). predicted s h (call_of e) r (answer e)) (L.declined_exactly h e (inl (refl, refl)) F) in
     let D : f ≡ predicted s h (call_of e) (refusal s (condition h) (call_of e)) (answer f) =
     is_predicted s h f c G M
-    ∙ ap (λ (r : Refusal). predicted s h (call_of f) r (answer f)) (M.declined_exactly h f (inl (refl, refl)))
+    ∙ ap (λ (r : Refusal). predicted s h (call_of f) r (answer f)) (M.declined_exactly h f (inl (refl, refl)) G)
     ∙ ap (λ (x : Call). predicted s h x (refusal s (condition h) x) (answer f)) (sym q) in
     let P : Event → Type 0 = λ x. Law s (then h x) b in
     let Q : Event → Type 0 = λ x. Law s (then h x) c in

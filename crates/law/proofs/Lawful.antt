@@ -9,7 +9,7 @@ use Rattle.law.specs.Subject.{Subject, Recording, Sound, State, Admits, Judges, 
 use Rattle.law.specs.History.{Report, Event, declined, starved, loaded, gave, ended, found, forwent, showed, reported, History, begun, then, Condition, Empty, Ready, Waiting, Judged, Left, Ended, condition, recording, given, standing, judged, unsafe, first, forgone, skipped, passed, if_found}
 use Rattle.law.specs.Rules.{refusal, verdict_of}
 use Rattle.law.specs.Steps.{View, Step, Reached, report_on}
-use Rattle.law.specs.Law.{Made, call_of, declined_by, Once, standing_image, judgement_of, report_of, AllRecover, Safe, EveryHistoryIsLawful}
+use Rattle.law.specs.Law.{Made, call_of, declined_by, Fed, Once, standing_image, judgement_of, report_of, AllRecover, Safe, EveryHistoryIsLawful}
 use Rattle.law.proofs.States.{all_list, once_kept}
 use Rattle.law.proofs.Facts.{part, in_hand, Place, Fine, Facts, follows, closes, loading, judging, on_load, on_giving, on_end, on_judge, on_forgo, length_forgo, agree, once_part}
 
@@ -18,23 +18,23 @@ abbrev pub judged_states : History → List State
 judged_states begun = []
 judged_states (then h e) = if_found e (λ o. judged_states h ++ standing h ∷ []) (judged_states h)
 
-abbrev Core : Subject → History → Type 0
+abbrev pub Core : Subject → History → Type 0
 Core s h = Facts s (recording s h) (condition h) (standing h) (given h) (skipped h) (judged h) (unsafe h) (forgone s h) (judged_states h)
 
 -- the run as its history tells it, with n states passed
-abbrev told_with : Subject → History → ℕ → View
+abbrev pub told_with : Subject → History → ℕ → View
 told_with s h n = record { base = s.base; recording = recording s h; condition = condition h; standing = standing h; judged = judged h; unsafe = unsafe h; forgone = forgone s h; passed = n; first = first h }
 
-abbrev part_of : Subject → History → List State
+abbrev pub part_of : Subject → History → List State
 part_of s h = part (recording s h) (condition h) (standing h)
 
-abbrev told : Subject → History → View
+abbrev pub told : Subject → History → View
 told s h = told_with s h (length (part_of s h))
 
 -- what an answer says is so
-abbrev Good : Subject → History → Event → Type 0
+abbrev pub Good : Subject → History → Event → Type 0
 Good s h (declined call n p) = Unit {0}
-Good s h (starved bytes) = Unit {0}
+Good s h (starved bytes) = condition h ≡ Empty
 Good s h (loaded bytes) = Unit {0}
 Good s h (gave x) = Unit {0}
 Good s h ended = Unit {0}
@@ -43,20 +43,20 @@ Good s h forwent = Unit {0}
 Good s h (showed sector size content) = content ≡ get_or (standing_image s h) sector []
 Good s h (reported r) = (r ≡ report_of s h) × ((r.verdict ≡ 2) ↔ Safe s h)
 
-abbrev Each : Subject → History → Event → Type 0
-Each s h e = (declined_by e ≡ refusal s (condition h) (call_of e)) × Good s h e
+abbrev pub Each : Subject → History → Event → Type 0
+Each s h e = (Fed e → declined_by e ≡ refusal s (condition h) (call_of e)) × Good s h e
 
-abbrev Throughout : Subject → History → Type 0
+abbrev pub Throughout : Subject → History → Type 0
 Throughout s begun = Unit {0}
 Throughout s (then h e) = Throughout s h × Each s h e
 
 -- outcome 0 is a tree admitted
-admits : (R : Recording) (p : ℕ) (o : Outcome) (j : ℕ × ℕ) → Judges R p o j → j.0 ≡ 0 → Admits R p o
+pub admits : (R : Recording) (p : ℕ) (o : Outcome) (j : ℕ × ℕ) → Judges R p o j → j.0 ≡ 0 → Admits R p o
 admits R p (a_tree nodes) j (inl t) e = t.1
 admits R p (a_tree nodes) j (inr t) e = absurd (omega (arith, t.0))
 admits R p (a_fault f) j t e = absurd (omega (arith, ap (λ (i : ℕ × ℕ). i.0) t))
 
-zero_of : (R : Recording) (p : ℕ) (o : Outcome) (j : ℕ × ℕ) → Judges R p o j → Admits R p o → j.0 ≡ 0
+pub zero_of : (R : Recording) (p : ℕ) (o : Outcome) (j : ℕ × ℕ) → Judges R p o j → Admits R p o → j.0 ≡ 0
 zero_of R p (a_tree nodes) j (inl t) a = ap (λ (i : ℕ × ℕ). i.0) t.0
 zero_of R p (a_tree nodes) j (inr t) a = absurd (t.1.out (a j.1 t.1.node))
 zero_of R p (a_fault f) j t a = absurd a
@@ -138,8 +138,8 @@ pub record More (s : Subject) (h : History) (e : Event) (v : View) : Type 0 wher
   pub each : Each s h e
 
 more : (s : Subject) (h : History) (e : Event) (v : View) → Core s h → Step s (told s h) e v → More s h e v
-more s h (declined call n p) v K S = record { told_by = S.1; core = K; each = (sym S.0, tt) }
-more s h (starved bytes) v K S = record { told_by = S.1; core = K; each = (sym S.0, tt) }
+more s h (declined call n p) v K S = record { told_by = S.1; core = K; each = ((λ f. sym S.0), tt) }
+more s h (starved bytes) v K S = record { told_by = S.1; core = K; each = ((λ f. absurd f), S.0) }
 more s h (loaded bytes) v K S =
     let t = loading (s.loads bytes) (condition h) S.0 in
     let x = standing h in
@@ -149,21 +149,21 @@ more s h (loaded bytes) v K S =
     record {
       told_by = S.1 ∙ ap (λ (n : ℕ). told_with s (then h (loaded bytes)) n) (ap (λ (c : Condition). length (part (recording s h) c x)) t.0);
       core = on_load s (recording s h) x (given h) (skipped h) (judged h) (unsafe h) (forgone s h) (judged_states h) (meaning (s.loads bytes)) sound (subst P t.0 K);
-      each = (sym S.0, tt);
+      each = ((λ f. sym S.0), tt);
     }
 more s h (gave x) v K S =
     let F = follows s (recording s h) (standing h) (condition h) x K.place S.0 S.1 in
     record {
       told_by = S.2 ∙ ap (λ (n : ℕ). told_with s (then h (gave x)) n) (let e : length (part_of s h) + 1 ≡ length (part_of s (then h (gave x))) = omega (arith, ap (λ (t : List State). length t) F.grows, length-append (part_of s h) (x ∷ [])) in e);
       core = on_giving s (recording s h) (standing h) (given h) (skipped h) (judged h) (unsafe h) (forgone s h) (judged_states h) (condition h) x F K;
-      each = (sym S.0, tt);
+      each = ((λ f. sym S.0), tt);
     }
 more s h ended v K S =
     let F = closes s (recording s h) (standing h) (condition h) K.place S.0 S.1 in
     record {
       told_by = S.2 ∙ ap (λ (t : List State). told_with s (then h ended) (length t)) F.all;
       core = on_end s (recording s h) (standing h) (given h) (skipped h) (judged h) (unsafe h) (forgone s h) (judged_states h) (condition h) F K;
-      each = (sym S.0, tt);
+      each = ((λ f. sym S.0), tt);
     }
 more s h (found o n) v K S =
     let w = judging (condition h) S.0 in
@@ -172,16 +172,16 @@ more s h (found o n) v K S =
     record {
       told_by = S.2 ∙ ap (λ (c : Condition). told_with s (then h (found o n)) (length (part (recording s h) c x))) w;
       core = on_judge s (recording s h) x (given h) (skipped h) (judged h) (unsafe h) (forgone s h) (judged_states h) o (ap (λ (j : ℕ × ℕ). j.0) S.1) (subst P w K);
-      each = (sym S.0, S.1);
+      each = ((λ f. sym S.0), S.1);
     }
 more s h forwent v K S =
     record {
       told_by = S.1 ∙ ap (λ (n : ℕ). told_with s (then h forwent) n) (length_forgo s (recording s h) (standing h) (condition h) S.0 K.place);
       core = on_forgo s (recording s h) (standing h) (given h) (skipped h) (judged h) (unsafe h) (forgone s h) (judged_states h) (condition h) S.0 K;
-      each = (sym S.0, tt);
+      each = ((λ f. sym S.0), tt);
     }
-more s h (showed sector size content) v K S = record { told_by = S.2; core = K; each = (sym S.0, S.1) }
-more s h (reported r) v K S = record { told_by = S.1; core = K; each = (refl, report_good s h K r S.0) }
+more s h (showed sector size content) v K S = record { told_by = S.2; core = K; each = ((λ f. sym S.0), S.1) }
+more s h (reported r) v K S = record { told_by = S.1; core = K; each = ((λ f. refl), report_good s h K r S.0) }
 
 pub record Held (s : Subject) (h : History) (v : View) : Type 0 where
   pub told_by : v ≡ told s h
@@ -191,7 +191,7 @@ pub record Held (s : Subject) (h : History) (v : View) : Type 0 where
 core_begun : (s : Subject) → Core s begun
 core_begun s = record { place = tt; given = refl; behind = λ y e. absurd (both_ways false refl e); sum = refl; full = λ e. refl; few = omega arith; none_bad = λ e. tt; all_fine = λ a. refl }
 
-held : (s : Subject) (h : History) (v : View) → Reached s h v → Held s h v
+pub held : (s : Subject) (h : History) (v : View) → Reached s h v → Held s h v
 held s begun v R = record { told_by = R; core = core_begun s; throughout = tt }
 held s (then h e) v R =
     let H = held s h R.0 R.1 in
@@ -219,6 +219,7 @@ lawful s h v R =
     record {
       base_kept = ap (λ (w : View). w.base) H.told_by;
       declined_exactly = λ k e m. (made s h k e H.throughout m).0;
+      starved_empty = λ k bytes m. (made s h k (starved bytes) H.throughout m).1;
       given_in_order = K.given ∙ ap (λ (t : List State). filter n t) (sym same);
       given_once = subst O (sym K.given) (once_kept n (part_of s h) (once_part (recording s h) (condition h) (standing h)));
       looks_show = λ k sector size content m. (made s h k (showed sector size content) H.throughout m).1;

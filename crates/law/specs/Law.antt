@@ -1,9 +1,9 @@
 -- THE LAW of a history and of the base image after it.
-use Rattle.std.specs.Prelude.{◌≡◌, ℕ, ◌+◌, ◌≤◌, not, ◌⊎◌, ◌↔◌, List, [], ◌∷◌, length, Some, filter, ◌≢◌, slice_index_or}
+use Rattle.std.specs.Prelude.{◌≡◌, ℕ, ◌+◌, ◌<◌, ◌≤◌, not, ◌⊎◌, ◌↔◌, List, [], ◌∷◌, length, Some, filter, ◌≢◌, slice_index_or}
 use Rattle.std.specs.List.{AllByRecursion}
 use Rattle.image.specs.Sectors.{Sector, Image}
-use Rattle.law.specs.Subject.{Subject, Recording, State, Permitted, Admits, image}
-use Rattle.law.specs.History.{Call, load, advance, judge, forgo, look, report, Report, Event, declined, starved, loaded, gave, ended, found, forwent, showed, reported, History, begun, then, Ended, condition, recording, given, standing, judged, unsafe, first, waiting, forgone, skipped, passed}
+use Rattle.law.specs.Subject.{Subject, Recording, State, Permitted, Admits, count, image}
+use Rattle.law.specs.History.{Call, load, advance, judge, forgo, look, report, Report, Event, declined, starved, loaded, gave, ended, found, forwent, showed, reported, History, begun, then, Empty, Ended, condition, recording, given, standing, judged, unsafe, first, waiting, forgone, skipped, passed}
 use Rattle.law.specs.Rules.{Refusal, none, refusal, verdict_of}
 use Rattle.law.specs.Steps.{View, Step, Reached}
 
@@ -34,6 +34,18 @@ declined_by forwent = none
 declined_by (showed sector size content) = none
 declined_by (reported r) = none
 
+-- the answer is another than that memory was wanting
+abbrev pub Fed : Event → Type 0
+Fed (declined call n p) = Unit {0}
+Fed (starved bytes) = ⊥
+Fed (loaded bytes) = Unit {0}
+Fed (gave x) = Unit {0}
+Fed ended = Unit {0}
+Fed (found o n) = Unit {0}
+Fed forwent = Unit {0}
+Fed (showed sector size content) = Unit {0}
+Fed (reported r) = Unit {0}
+
 -- no state twice
 abbrev pub Once : List State → Type 0
 Once [] = Unit {0}
@@ -63,7 +75,9 @@ pub record Safe (s : Subject) (h : History) : Type 0 where
 
 pub record Law (s : Subject) (h : History) (base : Image) : Type 0 where
   pub base_kept : base ≡ s.base
-  pub declined_exactly : (k : History) (e : Event) → Made h k e → declined_by e ≡ refusal s (condition k) (call_of e)
+  -- each call was declined exactly where the rules say, by that number and place; memory was wanting to a load of an Empty run only
+  pub declined_exactly : (k : History) (e : Event) → Made h k e → Fed e → declined_by e ≡ refusal s (condition k) (call_of e)
+  pub starved_empty : (k : History) (bytes : List ℕ) → Made h k (starved bytes) → condition k ≡ Empty
   pub given_in_order : given h ≡ filter (λ y. not (skipped h y)) (passed s h)
   pub given_once : Once (given h)
   pub looks_show : (k : History) (sector size : ℕ) (content : Sector) → Made h k (showed sector size content) → content ≡ slice_index_or (standing_image s k) sector []
@@ -76,18 +90,26 @@ pub record Law (s : Subject) (h : History) (base : Image) : Type 0 where
 abbrev pub EveryHistoryIsLawful : Type 0
 EveryHistoryIsLawful = (s : Subject) (h : History) (v : View) → Reached s h v → Law s h v.base
 
--- THE LAW LEAVES NOTHING OPEN but a want of memory: where two answers to one call keep it, they are the same.
-abbrev pub Fed : Event → Type 0
-Fed (declined call n p) = Unit {0}
-Fed (starved bytes) = ⊥
-Fed (loaded bytes) = Unit {0}
-Fed (gave x) = Unit {0}
-Fed ended = Unit {0}
-Fed (found o n) = Unit {0}
-Fed forwent = Unit {0}
-Fed (showed sector size content) = Unit {0}
-Fed (reported r) = Unit {0}
+-- the state recovers to a tree admitted at its point
+abbrev pub Recovers : Subject → Recording → State → Type 0
+Recovers s R x = Admits R x.0 (s.outcome (image R x))
 
+-- x comes before y in the list
+abbrev pub Earlier : State → State → Type 0
+Earlier x y = (x.0 < y.0) ⊎ ((x.0 ≡ y.0) × (x.1 < y.1))
+
+-- x is the first state of the list that does not recover to an admitted tree
+pub record FirstUnsafe (s : Subject) (R : Recording) (x : State) : Type 0 where
+  pub point : x.0 ≤ R.last
+  pub rank : x.1 < count R x.0
+  pub unsafe : Recovers s R x → ⊥
+  pub first : (y : State) → Earlier y x → y.1 < count R y.0 → Recovers s R y
+
+-- Where nothing was forgone, the state that a history names is the first of the list that is unsafe.
+abbrev pub FirstIsFirst : Type 0
+FirstIsFirst = (s : Subject) (h : History) (v : View) → Reached s h v → forgone s h ≡ 0 → 0 < unsafe h → FirstUnsafe s (recording s h) (first h)
+
+-- THE LAW LEAVES NOTHING OPEN but a want of memory: where two answers to one call keep it, they are the same.
 abbrev pub TheLawDecides : Type 0
 TheLawDecides = (s : Subject) (h : History) (e f : Event) (b c : Image) → Law s (then h e) b → Law s (then h f) c → call_of e ≡ call_of f → Fed e → Fed f → e ≡ f
 

@@ -59,7 +59,7 @@ Accepts s v call = refusal s v.condition call ≡ none
 
 abbrev pub Step : Subject → View → Event → View → Type 0
 Step s v (declined call n p) v' = (refusal s v.condition call ≡ Some (n, p)) × (v' ≡ v)
-Step s v (starved bytes) v' = Accepts s v (load bytes) × (v' ≡ v)
+Step s v (starved bytes) v' = (v.condition ≡ Empty) × (v' ≡ v)
 Step s v (loaded bytes) v' = Accepts s v (load bytes) × (v' ≡ on_load s bytes v)
 Step s v (gave x) v' = Accepts s v advance × (next v.recording v.condition v.standing ≡ Some x) × (v' ≡ on_giving x v)
 Step s v ended v' = Accepts s v advance × (next v.recording v.condition v.standing ≡ None) × (v' ≡ on_end v)

@@ -2,12 +2,14 @@
 //! (a base image, a recovery, and what each recording means).
 #![tactic(auto)]
 
-ghost use Rattle.law.specs.Law.{EveryCallIsAnswered, EveryHistoryIsLawful, SomeRunIsSafe, TheLawDecides};
+ghost use Rattle.law.specs.Law.{EveryCallIsAnswered, EveryHistoryIsLawful, FirstIsFirst, SomeRunIsSafe, TheLawDecides};
 
-/// Whatever calls are made of a run, its history keeps the law.
-#[tactic(auto, using(crate::proofs::Lawful::lawful))]
+/// Whatever calls are made of a run, its history keeps the law; and where nothing is forgone, the state that it names is
+/// the first of the list that is unsafe.
+#[tactic(auto, using(crate::proofs::Lawful::lawful, crate::proofs::Naming::first_is_first))]
 pub fn law_stands()
-    ensures { EveryHistoryIsLawful }
+    ensures lawful { EveryHistoryIsLawful }
+    ensures named { FirstIsFirst }
 {}
 
 /// No two answers to a call both keep the law, unless memory is wanting; every call has an answer; and some run is safe.

@@ -1,0 +1,2 @@
+mod Ending
+mod Onward

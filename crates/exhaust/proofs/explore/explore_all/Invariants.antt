@@ -1,0 +1,13 @@
+use Rattle.std.proofs.Common.{◌≡◌}
+use Rattle.law.specs.Subject.{Recording, takes}
+use Rattle.law.specs.History.{History}
+use Rattle.run.specs.Seen.{Kept, Led, subject, view}
+use Rattle.exhaust.proofs.Onward.{Going}
+use Rattle.exhaust.proofs.explore.explore_all.Given as goal
+
+-- the recording is taken, so many states are judged and none is forgone, and some history led here
+abbrev pub invariant-loop : goal.invariant-loop
+invariant-loop g l =
+    Kept l.fn.run l.run
+    × ((R : Recording) × ((subject l.fn.run).loads l.recording ≡ takes R) × Going R l.counter (view l.run))
+    × ((h : History) → Led h l.fn.run → (k : History) × Led k l.run)

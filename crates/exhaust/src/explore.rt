@@ -1,0 +1,43 @@
+//! The search.
+ghost use Rattle.std.specs.Prelude.{◌≡◌, IfOk, Err};
+ghost use Rattle.law.specs.History.{History};
+ghost use Rattle.progress.specs.Reports.{report_seen};
+ghost use Rattle.run.specs.declared.refusal.Refusal.{Refusal};
+ghost use Rattle.run.specs.Seen.{Goes, Kept, Led, subject};
+ghost use Rattle.run.specs.Typed.{loading};
+ghost use Rattle.exhaust.specs.declared.watch.Stopped.TheVariants.{Declined};
+ghost use Rattle.exhaust.specs.Exhausted.{Exhausted};
+
+use crate::watch::{Stopped, Watch};
+use filesystem::FileSystem;
+use image::ImageStore;
+use progress::Report;
+use run::Run;
+
+/// The most states that a recording's list may have: 256 entries, and 1,048,576 states at each point.
+pub const MOST_STATES_IN_ALL: u64 = 269_484_032;
+
+/// Loads a recording into an Empty run, then gives and judges every state of the list, telling each
+/// to the watcher; and reports. The search ends, nothing is forgone, and the report says safe
+/// exactly where every permitted state of every crash point recovers to an admitted tree; else it
+/// names the first unsafe state of the list.
+pub fn explore_all<S: ImageStore, F: FileSystem, W: Watch>(
+    run: &mut Run<S, F>,
+    recording: &[u8],
+    watch: &mut W,
+) -> Result<Report, Stopped<W::Stop>>
+    ensures kept { Kept run.old run.new }
+    ensures declined { (f : Refusal) → result ≡ Err (Declined f) → Goes run.old (loading recording.now (Err f)) run.new }
+    ensures explored { (h : History) → Led h run.old → IfOk result (λ report. Exhausted (subject run.old) recording.now (report_seen report)) }
+{
+    run.load(recording)?;
+    // One advance more than there are states finds the end.
+    for _ in 0..=MOST_STATES_IN_ALL {
+        let Some((point, rank)) = run.advance().unwrap() else {
+            return Ok(run.report());
+        };
+        let found = run.judge().unwrap();
+        watch.judged(point, rank, found).map_err(Stopped::Watcher)?;
+    }
+    unreachable!()
+}

@@ -1,0 +1,10 @@
+pub mod Refusals
+pub mod Events
+pub mod Standing
+pub mod Valid
+pub mod Props
+pub mod Seen
+pub mod Moves
+pub mod Loads
+pub mod Looks
+pub mod Typed
