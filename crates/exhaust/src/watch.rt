@@ -15,7 +15,7 @@ pub trait Watch {
 }
 
 /// Why a search came to no end.
-#[derive(Debug)]
+#[derive(Debug, Drop)]
 pub enum Stopped<E> {
     /// The recording is not loaded.
     Declined(Refusal),
