@@ -16,7 +16,9 @@ fn widened(states: u64, candidates: usize) -> u64
     ensures { result ≡ min (states * candidates) 1048577 }
 {
     // `u64` has no `From<usize>`.
-    states.saturating_mul(candidates as u64).min(MOST_STATES + 1)
+    states
+        .saturating_mul(candidates as u64)
+        .min(MOST_STATES + 1)
 }
 
 /// The product of the sectors' numbers of candidates, counted up to one above the limit.

@@ -212,7 +212,9 @@ mod tables {
             ..write(0, 0, 0)
         };
         assert!(rt; answer_lines(heap, &[wrong])? == Err(Some((8, 1))));
-        assert!(rt; answer_lines(heap, &[write(0, 0, 0), mark(b"f 1"), wrong])? == Err(Some((10, 2))));
+        assert!(rt;
+            answer_lines(heap, &[write(0, 0, 0), mark(b"f 1"), wrong])? == Err(Some((10, 2)))
+        );
         Ok(())
     }
 
@@ -228,7 +230,9 @@ mod tables {
             ..write(0, 0, DISCARD + FLUSH)
         };
         assert!(rt; answer_lines(heap, &[wide, zeros, wide])? == Ok(1));
-        assert!(rt; answer_lines(heap, &[wide, zeros, wide, write(0, 0, 0)])? == Err(Some((11, 4))));
+        assert!(rt;
+            answer_lines(heap, &[wide, zeros, wide, write(0, 0, 0)])? == Err(Some((11, 4)))
+        );
         Ok(())
     }
 
