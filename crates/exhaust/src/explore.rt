@@ -1,9 +1,10 @@
 //! The search.
 ghost use Rattle.std.specs.Prelude.{◌≡◌, IfOk, Err};
+ghost use Rattle.law.specs.Subject.{Subject};
 ghost use Rattle.law.specs.History.{History};
 ghost use Rattle.progress.specs.Reports.{report_seen};
 ghost use Rattle.run.specs.declared.refusal.Refusal.{Refusal};
-ghost use Rattle.run.specs.Seen.{Goes, Kept, Led, subject};
+ghost use Rattle.run.specs.Seen.{Goes, Kept, Led};
 ghost use Rattle.run.specs.Typed.{loading};
 ghost use Rattle.exhaust.specs.declared.watch.Stopped.TheVariants.{Declined};
 ghost use Rattle.exhaust.specs.Exhausted.{Exhausted};
@@ -28,7 +29,7 @@ pub fn explore_all<S: ImageStore, F: FileSystem, W: Watch>(
 ) -> Result<Report, Stopped<W::Stop>>
     ensures kept { Kept run.old run.new }
     ensures declined { (f : Refusal) → result ≡ Err (Declined f) → Goes run.old (loading recording.now (Err f)) run.new }
-    ensures explored { (h : History) → Led h run.old → IfOk result (λ report. Exhausted (subject run.old) recording.now (report_seen report)) }
+    ensures explored { (s : Subject) (h : History) → Led s h run.old → IfOk result (λ report. Exhausted s recording.now (report_seen report)) }
 {
     run.load(recording)?;
     // One advance more than there are states finds the end.

@@ -4,4 +4,4 @@ mod Clean
 mod Carrying
 mod Taking
 mod Looking
-pub mod Going
+mod Going

@@ -31,10 +31,10 @@ module _ {S F : Type 0} {store : StoreMeaning S} {system : SystemMeaning F} wher
   abbrev pub Goes : Run S F store system → Event → Run S F store system → Type 0
   Goes before e after = Step (subject before) (view before) e (view after)
 
-  -- The history led to this run.
-  abbrev pub Led : History → Run S F store system → Type 0
-  Led h run = Reached (subject run) h (view run)
+  -- A run begun over the subject s has come to be this one by the history.
+  abbrev pub Led : Subject → History → Run S F store system → Type 0
+  Led s h run = (subject run ≡ s) × Reached s h (view run)
 
-  -- Whatever history led to the run before, with this event it leads to the run after.
+  -- Whatever history led to the run before, from whatever begin, with this event it leads to the run after.
   abbrev pub Went : Run S F store system → Event → Run S F store system → Type 0
-  Went before e after = (h : History) → Led h before → Led (then h e) after
+  Went before e after = (s : Subject) (h : History) → Led s h before → Led s (then h e) after

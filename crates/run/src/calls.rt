@@ -1,10 +1,12 @@
 //! The calls of a run.
 ghost use Rattle.std.specs.Prelude.{◌≡◌, false, length, is_ok};
+ghost use Rattle.law.specs.Subject.{Subject};
 ghost use Rattle.law.specs.History.{History, begun as nothingCalled, then, reported};
 ghost use Rattle.law.specs.Law.{call_of, Law};
 ghost use Rattle.law.specs.Steps.{report_on};
+ghost use Rattle.meaning.specs.Subjects.{subject_of};
 ghost use Rattle.progress.specs.Reports.{report_seen};
-ghost use Rattle.run.specs.Seen.{Goes, Kept, Led, Went, base_of, subject, view};
+ghost use Rattle.run.specs.Seen.{Goes, Kept, Led, Went, base_of, view};
 ghost use Rattle.run.specs.Events.{call_seen, event_of};
 ghost use Rattle.run.specs.Typed.{advancing, judging as found_by, forgoing, loading, looking};
 
@@ -26,7 +28,7 @@ impl<S: ImageStore, F: FileSystem> Run<S, F> {
     pub fn begin(heap: Global, store: S, fs: F) -> Run<S, F>
         ensures store { result.layers.below.below ≡ store }
         ensures fs { result.fs ≡ fs }
-        ensures led { Led nothingCalled result }
+        ensures led { Led (subject_of F.FileSystem.LEAST (F.FileSystem.outcome fs) (S.ImageStore.sectors store)) nothingCalled result }
     {
         let space = Space {
             trace: Trace::new(heap),
@@ -122,7 +124,7 @@ impl<S: ImageStore, F: FileSystem> Run<S, F> {
     /// The report. Whatever history led here, the law holds of it with this report.
     pub fn report(&self) -> Report
         ensures figures { report_seen result ≡ report_on (view self.now) }
-        ensures law { (h : History) → Led h self.now → Law (subject self.now) (then h (reported (report_seen result))) (base_of self.now) }
+        ensures law { (s : Subject) (h : History) → Led s h self.now → Law s (then h (reported (report_seen result))) (base_of self.now) }
     {
         self.progress.report()
     }

@@ -1,5 +1,6 @@
 //! The calls made.
 ghost use Rattle.std.specs.Prelude.{◌≡◌};
+ghost use Rattle.law.specs.Subject.{Subject};
 ghost use Rattle.law.specs.History.{History, begun as nothingCalled, then, reported};
 ghost use Rattle.law.specs.Law.{Law};
 ghost use Rattle.meaning.specs.Subjects.{subject_of};
@@ -22,7 +23,7 @@ pub fn work<'a, S: ImageStore, F: FileSystem, C: Caller<'a>>(
     budget: u64,
 )
     ensures kept { Kept run.old run.new }
-    ensures told { (h : History) → Led h run.old → (t : Talk) × Led (history_after h t) run.new × Stops C.Caller.says caller.old budget t caller.new }
+    ensures told { (s : Subject) (h : History) → Led s h run.old → (t : Talk) × Led s (history_after h t) run.new × Stops C.Caller.says caller.old budget t caller.new }
 {
     let mut last = None;
     for _ in 0..budget {

@@ -1,15 +1,14 @@
 -- A search is loaded, goes on, and ends.
-use Rattle.std.proofs.Common.{ℕ, Ok, Option, Result, sym, ap, ◌∙◌, subst, inl, arith}
-use Rattle.law.specs.Subject.{Subject}
+use Rattle.std.proofs.Common.{◌≡◌, ℕ, Ok, Option, Result, sym, ap, ◌∙◌, subst, inl, arith}
+use Rattle.law.specs.Subject.{Subject, takes}
 use Rattle.law.specs.History as H
-use Rattle.law.specs.Steps.{Step, Reached}
+use Rattle.law.specs.Steps.{Step}
 use Rattle.judging.specs.declared.judgement.Judgement.{Judgement}
 use Rattle.judging.specs.Codes as J
 use Rattle.progress.specs.Reports.{report_seen}
 use Rattle.run.specs.declared.refusal.Refusal.{Refusal}
-use Rattle.run.specs.Seen.{Kept, subject, view}
+use Rattle.run.specs.Seen.{subject, view}
 use Rattle.run.specs.Typed.{advancing, judging, loading}
-use Rattle.run.proofs.Going.{subject_same}
 use Rattle.exhaust.proofs.Onward.{loads, ready_bounds, passed_low, advance_ok, goes_on, over}
 use Rattle.exhaust.proofs.Ending.{ending}
 use Rattle.exhaust.proofs.explore.explore_all.Goals as goal
@@ -23,7 +22,7 @@ loop-init g c =
     let b = ready_bounds run.progress run.valid.bounded L.3 in (
       E.kept,
       (L.0, L.1, record { recording = L.2; none_forgone = b.1; passed = b.0; ready = inl L.3 }),
-      λ h K. (H.then h (loading c.args.recording.now (Ok c.in_ok-load.field-0)), E.went h K),
+      λ s h K. (H.then h (loading c.args.recording.now (Ok c.in_ok-load.field-0)), E.went s h K),
     )
 
 pub unwrap-requires : goal.unwrap-requires
@@ -37,22 +36,19 @@ returns-in_default-clause-kept g c = let i = c.loop.invariant.0 in let k = c.adv
 
 pub returns-in_default-clause-explored : goal.returns-in_default-clause-explored
 returns-in_default-clause-explored g c =
-    let start = c.args.run.now in
     let before = c.loop.run in
     let run = c.advance.new.self in
     let i = c.loop.invariant in
     let G = i.1 in
-    let k = c.advance.ensures.kept in
-    let kept : Kept start run = (k.0 ∙ i.0.0, k.1 ∙ i.0.1) in
     let P : Result (Option (ℕ × ℕ)) Refusal → Type 0 = λ r. Step (subject before) (view before) (advancing r) (view run) in
     let S : Step (subject before) (view before) H.ended (view run) = subst P (c.unwrap.ensures ∙ ap Ok c.in_default.is) c.advance.ensures.goes in
     let O = over (subject before) G.0 c.loop.counter (view before) (view run) G.2 S in
-    λ h K.
-    let V = i.2 h K in
-    let led = c.advance.ensures.went V.0 V.1 in
-    let k = H.then V.0 (advancing c.advance.result) in
-    let Q : Subject → Type 0 = λ s. Reached s k (view run) in
-    ending (subject start) k (view run) (subst Q (sym (subject_same start run kept)) led) O.ended O.none_forgone c.args.recording.now G.0 G.1 O.recording (report_seen c.report.result) c.report.ensures.figures
+    λ s h K.
+    let V = i.2 s h K in
+    let m = H.then V.0 (advancing c.advance.result) in
+    let led = c.advance.ensures.went s V.0 V.1 in
+    let taken : s.loads c.args.recording.now ≡ takes G.0 = ap (λ (x : Subject). x.loads c.args.recording.now) (sym K.0) ∙ G.1 in
+    ending s m (view run) led.1 O.ended O.none_forgone c.args.recording.now G.0 taken O.recording (report_seen c.report.result) c.report.ensures.figures
 
 pub returns-in_err-map_err-clause-kept : goal.returns-in_err-map_err-clause-kept
 returns-in_err-map_err-clause-kept g c =
@@ -78,10 +74,10 @@ loop-preserved g c =
     let T : Step (subject middle) (view middle) (H.found (J.code_of found).0 (J.code_of found).1) (view run) = subst Q c.unwrap-found.ensures c.judge.ensures.goes in (
       (j.0 ∙ k.0 ∙ i.0.0, j.1 ∙ k.1 ∙ i.0.1),
       (G.0, G.1, goes_on (subject before) (subject middle) G.0 c.loop.counter (view before) (view middle) (view run) x (J.code_of found).0 (J.code_of found).1 G.2 S T),
-      λ h K.
-          let V = i.2 h K in
+      λ s h K.
+          let V = i.2 s h K in
           let m = H.then V.0 (advancing c.advance.result) in
-          (H.then m (judging c.judge.result), c.judge.ensures.went m (c.advance.ensures.went V.0 V.1)),
+          (H.then m (judging c.judge.result), c.judge.ensures.went s m (c.advance.ensures.went s V.0 V.1)),
     )
 
 pub unreachable-requires : goal.unreachable-requires

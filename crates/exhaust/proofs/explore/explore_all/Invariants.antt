@@ -1,5 +1,5 @@
 use Rattle.std.proofs.Common.{◌≡◌}
-use Rattle.law.specs.Subject.{Recording, takes}
+use Rattle.law.specs.Subject.{Subject, Recording, takes}
 use Rattle.law.specs.History.{History}
 use Rattle.run.specs.Seen.{Kept, Led, subject, view}
 use Rattle.exhaust.proofs.Onward.{Going}
@@ -10,4 +10,4 @@ abbrev pub invariant-loop : goal.invariant-loop
 invariant-loop g l =
     Kept l.fn.run l.run
     × ((R : Recording) × ((subject l.fn.run).loads l.recording ≡ takes R) × Going R l.counter (view l.run))
-    × ((h : History) → Led h l.fn.run → (k : History) × Led k l.run)
+    × ((s : Subject) (h : History) → Led s h l.fn.run → (k : History) × Led s k l.run)

@@ -3,7 +3,7 @@ use Rattle.std.proofs.Common.{refl}
 use Rattle.law.specs.History.{then, reported}
 use Rattle.law.proofs.Lawful.{lawful}
 use Rattle.progress.specs.Reports.{report_seen}
-use Rattle.run.specs.Seen.{base_of, subject, view}
+use Rattle.run.specs.Seen.{base_of, view}
 use Rattle.run.proofs.run.Run.report.Goals as goal
 
 pub returns-clause-figures : goal.returns-clause-figures
@@ -12,4 +12,4 @@ returns-clause-figures g c = let run = c.args.self.now in c.report.ensures (base
 pub returns-clause-law : goal.returns-clause-law
 returns-clause-law g c =
     let run = c.args.self.now in
-    λ h L. lawful (subject run) (then h (reported (report_seen c.report.result))) (view run) (view run, L, (c.report.ensures (base_of run) (view run).recording, refl))
+    λ s h L. lawful s (then h (reported (report_seen c.report.result))) (view run) (view run, L.1, (c.report.ensures (base_of run) (view run).recording, refl))
