@@ -8,9 +8,9 @@ use candidates::candidates_of;
 use console::{Failed, Program};
 use image::ImageStore;
 use points::point_states;
-use recording::Reader;
+use recording::{Entry, Reader};
 use std::alloc::{AllocError, Global};
-use words::entry_words;
+use words::point_words;
 
 /// The word for so many states.
 fn state_word(states: u64) -> &'static str {
@@ -26,18 +26,14 @@ fn spaced(heap: Global, numbers: &[usize]) -> Result<String, AllocError> {
     Ok(text)
 }
 
-/// The entry before a point, in words.
-fn before_point(heap: Global, point: usize, reader: &mut Reader) -> Result<String, AllocError> {
+/// The entry before a point, which the reader gives next; none stands before point 0.
+fn entry_before<'a>(point: usize, reader: &mut Reader<'a>) -> Option<Entry<'a>> {
     if point == 0 {
-        return format!(in heap; "before the first entry");
+        return None;
     }
     // The bytes were taken, so an entry is there; a type that says so would relate reader, trace and point for this
     // call alone.
-    let Ok(Some(entry)) = reader.next() else {
-        return format!(in heap; "after entry {point}");
-    };
-    let words = entry_words(heap, &entry)?;
-    format!(in heap; "after entry {point}, {words}")
+    reader.next().ok().flatten()
 }
 
 impl<S: ImageStore> Taken<S> {
@@ -77,7 +73,7 @@ impl<S: ImageStore> Taken<S> {
         let mut widest = 0;
         // Points are named by number.
         for point in 0..=self.trace.len() {
-            let before = before_point(rt.alloc(), point, &mut reader)?;
+            let before = point_words(rt.alloc(), point, entry_before(point, &mut reader))?;
             let states = self.report_point(rt, point, before.as_str())?;
             all = all.saturating_add(states);
             widest = widest.max(states);

@@ -1,5 +1,5 @@
 -- Entries of a recording in words.
-use Rattle.std.specs.Prelude.{ℕ, ◌+◌, ◌-◌, ◌/◌, max, Bool, List, [], ◌∷◌, ◌++◌, flat_map, length, codes, decimal, ◌==◌, if◌then◌else◌}
+use Rattle.std.specs.Prelude.{ℕ, ◌+◌, ◌-◌, ◌/◌, max, Bool, List, [], ◌∷◌, ◌++◌, flat_map, length, codes, decimal, Option, Some, None, ◌==◌, if◌then◌else◌}
 use Rattle.recording.specs.Items.{Item, write, discard, flush, mark}
 use Rattle.console.specs.Texts.{shown}
 
@@ -23,3 +23,8 @@ entry_text (discard sector sectors fl meta) =
 entry_text (flush sector fua dis meta) =
     codes "flush without data, names sector " ++ (decimal sector ++ flags_text ((fua, codes "FUA") ∷ (dis, codes "discard") ∷ (meta, codes "metadata") ∷ []))
 entry_text (mark text) = codes "mark " ++ shown text
+
+-- what stands before a crash point
+abbrev pub point_text : ℕ → Option Item → List ℕ
+point_text point None = codes "before the first entry"
+point_text point (Some entry) = codes "after entry " ++ (decimal point ++ (codes ", " ++ entry_text entry))

@@ -1,9 +1,9 @@
 //! Entries of a recording in words, for the programs.
 #![tactic(auto)]
 
-ghost use Rattle.std.specs.Prelude.{◌≡◌, IfOk, map, string_bytes};
+ghost use Rattle.std.specs.Prelude.{◌≡◌, IfOk, map, option_map, string_bytes};
 ghost use Rattle.recording.specs.Reading.{item_seen};
-ghost use Rattle.words.specs.Words.{entry_text, flags_text, sectors_text};
+ghost use Rattle.words.specs.Words.{entry_text, flags_text, point_text, sectors_text};
 
 use console::printable;
 use recording::{Entry, Extent};
@@ -74,4 +74,15 @@ pub fn entry_words(heap: Global, entry: &Entry) -> Result<String, AllocError>
             format!(in heap; "mark {text}")
         }
     }
+}
+
+/// What stands before a crash point, in words. Point 0 has no entry before it.
+pub fn point_words(heap: Global, point: usize, before: Option<Entry>) -> Result<String, AllocError>
+    ensures { IfOk result (λ s. string_bytes s ≡ point_text point (option_map item_seen before.entry)) }
+{
+    let Some(entry) = before else {
+        return format!(in heap; "before the first entry");
+    };
+    let words = entry_words(heap, &entry)?;
+    format!(in heap; "after entry {point}, {words}")
 }
