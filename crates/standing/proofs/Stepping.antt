@@ -2,7 +2,7 @@
 use Rattle.std.proofs.Common.{◌≡◌, ℕ, ◌+◌, ◌<◌, true, false, eqb, List, [], ◌++◌, map, length, get_or, take, replicate, Some, None, Ok, Option, Result, sym, refl, ap, ◌∙◌, subst, inl, inr, arith}
 use Rattle.std.proofs.lemmas.List.{get_or-take, take_at}
 use Rattle.std.proofs.lemmas.Bool.{cases_lt, cases_Bool, not-false, eqb-true, ltb-false}
-use Rattle.std.proofs.lemmas.Simd.{map-map, splat_is_map}
+use Rattle.std.proofs.lemmas.Simd.{splat_is_map}
 use Rattle.image.specs.Sectors.{Image, Shaped}
 use Rattle.crash.specs.Rules.{Recording, written}
 use Rattle.crash.specs.States.{candidates, states}
@@ -15,7 +15,6 @@ use Rattle.trace.specs.Meaning.{Whole, effects_of, recording_of}
 use Rattle.points.specs.Moving.{ChangedFrom, Moved}
 use Rattle.points.specs.declared.places.LengthsDiffer.{LengthsDiffer}
 use Rattle.candidates.specs.Lists.{listed}
-use Rattle.standing.specs.declared.choice.Pick.{Pick}
 use Rattle.standing.specs.declared.choice.Choice.{Choice}
 use Rattle.standing.specs.Places.{candidates_in, lists_in, counts_in, places_in, taken, chosen, differs, wavers, Put, MovedOn}
 use Rattle.standing.specs.Standing.{Lists, Firsts, Stands, Onward}
@@ -91,7 +90,7 @@ moved_rows n counts before built row part rest after r o a b e l f h =
     subst (λ (x : List ℕ). MovedOn (take n counts) (take n before) (take n x) o) (sym f) (moved_within n counts before part rest o l (subst (λ (x : Result (Option ℕ) LengthsDiffer). Moved (take n counts) (take n before) part x) e h₂))
 
 pub lists_same : (c c' : Choice) → candidates_in c' ≡ candidates_in c → lists_in c' ≡ lists_in c
-lists_same c c' e = sym (map-map listed (λ (pick : Pick). pick.candidates) c'.picks) ∙ ap (map listed) e ∙ map-map listed (λ (pick : Pick). pick.candidates) c.picks
+lists_same c c' e = ap (map listed) e
 
 -- the next state, over the one that stands
 module _ (d : Recording) (p r : ℕ) (c c' : Choice) (image image' : Image) (kept : lists_in c' ≡ lists_in c) (st : Stands d p r c image) where

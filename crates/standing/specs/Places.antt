@@ -6,18 +6,17 @@ use Rattle.crash.specs.Ranks.{next}
 use Rattle.points.specs.Moving.{ChangedFrom}
 use Rattle.candidates.specs.declared.eight.Few.{Few}
 use Rattle.candidates.specs.Lists.{listed}
-use Rattle.standing.specs.declared.choice.Pick.{Pick}
 use Rattle.standing.specs.declared.choice.Choice.{Choice}
 
 -- the candidates of every sector, as they are kept and by their numbers, and the places of those that are taken
 abbrev pub candidates_in : Choice → List (Few ℕ)
-candidates_in c = map (λ pick. pick.candidates) c.picks
+candidates_in c = c.candidates
 
 abbrev pub lists_in : Choice → List (List ℕ)
-lists_in c = map (λ pick. listed pick.candidates) c.picks
+lists_in c = map listed c.candidates
 
 abbrev pub places_in : Choice → List ℕ
-places_in c = map (λ pick. pick.place) c.picks
+places_in c = c.places
 
 -- how many candidates every sector has
 abbrev pub counts_in : Choice → List ℕ
@@ -38,10 +37,6 @@ differs c s = not (taken c s == 0)
 -- sector s has more candidates than one
 abbrev pub wavers : Choice → (s : ℕ) → Bool
 wavers c s = nat_lt 1 (slice_index (counts_in c) s)
-
--- sector s has that pick
-abbrev pub HasPick : Choice → (s : ℕ) → Pick → Type 0
-HasPick c s pick = (s < length c.picks) × (pick ≡ slice_index_or c.picks s pick)
 
 -- the image with a content in place of sector s, if that is a whole sector
 abbrev pub replaced : Image → (s : ℕ) → Sector → Image

@@ -1,14 +1,12 @@
 //! The state that a choice takes, put onto an overlay.
 ghost use Rattle.std.specs.Prelude.{◌≡◌, ℕ, ◌≤◌, Bool, false, length};
-ghost use Rattle.std.specs.Fn.{FnReturnsAt};
 ghost use Rattle.image.specs.Sectors.{Shaped};
 ghost use Rattle.image.specs.Shown.{shown};
 ghost use Rattle.trace.specs.Meaning.{recording_of, effects_of, Whole};
-ghost use Rattle.standing.specs.declared.choice.Pick.{Pick};
-ghost use Rattle.standing.specs.Places.{chosen, candidates_in, HasPick, Put};
+ghost use Rattle.standing.specs.Places.{chosen, candidates_in, Put};
 ghost use Rattle.standing.specs.Standing.{Lists, Firsts, Stands, Entry, Onward};
 
-use crate::choice::{Choice, Pick};
+use crate::choice::Choice;
 use crate::sectors::put;
 use candidates::{Refusal, candidates_of};
 use image::{ImageStore, Overlay};
@@ -22,16 +20,15 @@ impl Choice {
         ensures { Entry (recording_of (S.ImageStore.sectors base.now) trace.now) point result }
     {
         let mut choice = Choice::new();
-        // By number: a loop over the front of the picks was tried, and after it nothing is known of all 64.
         for s in 0..base.count() {
-            choice.picks[s].candidates = candidates_of(trace, base, s, point)?;
+            choice.list(s, candidates_of(trace, base, s, point)?);
         }
         Ok(choice)
     }
 
     // The clause `below`, here and in the next two: no type relates an overlay before a call to the one after it.
     /// Puts what the sectors from `first` on take onto an overlay, where that is due.
-    fn put_due<S: ImageStore, F: Fn(&Pick) -> bool>(
+    fn put_due<S: ImageStore, F: Fn(usize) -> bool>(
         &self,
         trace: &Trace,
         state: &mut Overlay<S>,
@@ -42,11 +39,11 @@ impl Choice {
         requires first { first ≤ length (S.ImageStore.sectors state.old.below) }
         ensures below { state.new.below ≡ state.old.below }
         ensures shaped { Shaped (S.ImageStore.sectors state.old.below) }
-        ensures image { (test : ℕ → Bool) → ((s : ℕ) (pick : Pick) (b : Bool) → HasPick self.now s pick → FnReturnsAt F.Fn due pick b → b ≡ test s) → Put test (chosen (recording_of (S.ImageStore.sectors state.old.below) trace.now) self.now) first (length (S.ImageStore.sectors state.old.below)) (shown S.ImageStore.sectors state.old) (shown S.ImageStore.sectors state.new) }
+        ensures image { (test : ℕ → Bool) → ((s : ℕ) (b : Bool) → F.post due s b → b ≡ test s) → Put test (chosen (recording_of (S.ImageStore.sectors state.old.below) trace.now) self.now) first (length (S.ImageStore.sectors state.old.below)) (shown S.ImageStore.sectors state.old) (shown S.ImageStore.sectors state.new) }
     {
-        for (i, pick) in self.picks[first..state.below.count()].iter().enumerate() {
-            if due(pick) {
-                put(trace, state, first + i, pick.number());
+        for s in first..state.below.count() {
+            if due(s) {
+                put(trace, state, s, self.number(s));
             }
         }
     }
@@ -57,7 +54,7 @@ impl Choice {
         ensures stands { (p : ℕ) → Whole (effects_of trace.now) → Lists (recording_of (S.ImageStore.sectors state.old.below) trace.now) p self.now → Firsts (recording_of (S.ImageStore.sectors state.old.below) trace.now) self.now → Stands (recording_of (S.ImageStore.sectors state.old.below) trace.now) p 0 self.now (shown S.ImageStore.sectors state.new) }
     {
         state.forget();
-        self.put_due(trace, state, 0, |pick| pick.number() != 0);
+        self.put_due(trace, state, 0, |s| self.number(s) != 0);
     }
 
     /// Goes on to the next state of the point, on the overlay too. Where there is none the answer
@@ -70,13 +67,13 @@ impl Choice {
         ensures onward { (p k : ℕ) → Whole (effects_of trace.now) → Stands (recording_of (S.ImageStore.sectors state.old.below) trace.now) p k self.old (shown S.ImageStore.sectors state.old) → Onward (recording_of (S.ImageStore.sectors state.old.below) trace.now) p k self.new (shown S.ImageStore.sectors state.new) result }
     {
         let count = state.below.count();
-        let counts = self.counts();
-        let mut places = self.places();
-        let Some(first) = points::advance(&mut places[..count], &counts[..count]).unwrap() else {
+        let mut places = self.places;
+        let Some(first) = points::advance(&mut places[..count], &self.counts[..count]).unwrap()
+        else {
             return false;
         };
-        self.place(&places);
-        self.put_due(trace, state, first, |pick| pick.count() > 1);
+        self.places = places;
+        self.put_due(trace, state, first, |s| self.count(s) > 1);
         true
     }
 }

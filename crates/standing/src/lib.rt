@@ -4,7 +4,7 @@
 
 mod choice;
 mod laying;
-mod picks;
+mod lists;
 mod sectors;
 
 pub use choice::Choice;

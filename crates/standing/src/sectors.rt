@@ -19,7 +19,12 @@ pub(crate) fn put<S: ImageStore>(
     ensures below { state.new.below ≡ state.old.below }
     ensures image { shown S.ImageStore.sectors state.new ≡ replaced (shown S.ImageStore.sectors state.old) sector (written (recording_of (S.ImageStore.sectors state.old.below) trace.now) sector number) }
 {
-    let base = fetch(&state.below, sector);
+    // The base is read for number 0 alone, for speed: an entry's content is lent by the trace as it is.
     // A content that is not whole is refused, and then nothing changes: that is the answer here.
-    let _answer = state.write(sector, trace.content(&base, sector, number));
+    let _answer = if number == 0 {
+        let base = fetch(&state.below, sector);
+        state.write(sector, &base)
+    } else {
+        state.write(sector, trace.content(&[], sector, number))
+    };
 }

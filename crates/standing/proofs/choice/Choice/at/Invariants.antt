@@ -4,4 +4,4 @@ use Rattle.standing.proofs.choice.Choice.at.Given as goal
 
 -- the sectors so far are listed
 abbrev pub invariant-loop-s : goal.invariant-loop-s
-invariant-loop-s g l = ListedTo (recording_of (g.S.ImageStore.sectors l.base) l.trace) l.point l.s l.choice.0
+invariant-loop-s g l = ListedTo (recording_of (g.S.ImageStore.sectors l.base) l.trace) l.point l.s l.choice
