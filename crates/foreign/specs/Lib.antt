@@ -1,0 +1,4 @@
+pub mod Counts
+pub mod Declined
+pub mod FirstStates
+pub mod Own
