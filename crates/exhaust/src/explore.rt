@@ -15,13 +15,13 @@ use image::ImageStore;
 use progress::Report;
 use run::Run;
 
-/// The most states that a recording's list may have: 256 entries, and 1,048,576 states at each point.
+/// No recording's list has more states: there are at most 257 points, of at most 1,048,576 states each.
 pub const MOST_STATES_IN_ALL: u64 = 269_484_032;
 
 /// Loads a recording into an Empty run, then gives and judges every state of the list, telling each
 /// to the watcher; and reports. The search ends, nothing is forgone, and the report says safe
 /// exactly where every permitted state of every crash point recovers to an admitted tree; else it
-/// names the first unsafe state of the list.
+/// names the first unsafe state of the list. Whatever is answered, the run's history goes on.
 pub fn explore_all<S: ImageStore, F: FileSystem, W: Watch>(
     run: &mut Run<S, F>,
     recording: &[u8],
@@ -29,6 +29,7 @@ pub fn explore_all<S: ImageStore, F: FileSystem, W: Watch>(
 ) -> Result<Report, Stopped<W::Stop>>
     ensures kept { Kept run.old run.new }
     ensures declined { (f : Refusal) → result ≡ Err (Declined f) → Goes run.old (loading recording.now (Err f)) run.new }
+    ensures went { (s : Subject) (h : History) → Led s h run.old → (k : History) × Led s k run.new }
     ensures explored { (s : Subject) (h : History) → Led s h run.old → IfOk result (λ report. Exhausted s recording.now (report_seen report)) }
 {
     run.load(recording)?;

@@ -125,6 +125,7 @@ impl<S: ImageStore, F: FileSystem> Run<S, F> {
     pub fn report(&self) -> Report
         ensures figures { report_seen result ≡ report_on (view self.now) }
         ensures law { (s : Subject) (h : History) → Led s h self.now → Law s (then h (reported (report_seen result))) (base_of self.now) }
+        ensures went { Went self.now (reported (report_seen result)) self.now }
     {
         self.progress.report()
     }

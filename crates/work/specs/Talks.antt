@@ -1,6 +1,7 @@
 -- What a caller said and heard.
-use Rattle.std.specs.Prelude.{◌≡◌, ℕ, ◌+◌, ◌⊎◌, Some, None, Option, Result}
+use Rattle.std.specs.Prelude.{◌≡◌, ℕ, ◌+◌, ◌≤◌, ◌⊎◌, Some, None, Option, Result}
 use Rattle.law.specs.History.{History, then}
+use Rattle.law.specs.Law.{call_of}
 use Rattle.run.specs.declared.call.Call.{Call}
 use Rattle.run.specs.declared.call.Answer.{Answer}
 use Rattle.run.specs.declared.refusal.Refusal.{Refusal}
@@ -30,11 +31,12 @@ abbrev pub history_after : History → Talk → History
 history_after h silent = h
 history_after h (said t call reply) = then (history_after h t) (event_of (call_seen call) reply)
 
--- The caller c has chosen the calls of the talk upon the answers before, and has become c'.
+-- The caller c has chosen the calls of the talk upon the answers before, each was answered by an answer to it, and the caller has
+-- become c'.
 abbrev pub Spoken : {C : Type 0} → (C → Option Reply → Option Call → C → Type 0) → C → Talk → C → Type 0
 Spoken says c silent c' = c' ≡ c
-Spoken {C} says c (said t call reply) c' = (m : C) × Spoken says c t m × says m (last_of t) (Some call) c'
+Spoken {C} says c (said t call reply) c' = (m : C) × Spoken says c t m × says m (last_of t) (Some call) c' × (call_of (event_of (call_seen call) reply) ≡ call_seen call)
 
 -- how a talk ends: so many calls are made, or the caller has no more
 abbrev pub Stops : {C : Type 0} → (C → Option Reply → Option Call → C → Type 0) → C → (budget : ℕ) → Talk → C → Type 0
-Stops {C} says c budget t c' = ((calls t ≡ budget) × Spoken says c t c') ⊎ ((m : C) × Spoken says c t m × says m (last_of t) None c')
+Stops {C} says c budget t c' = ((calls t ≡ budget) × Spoken says c t c') ⊎ ((m : C) × (calls t ≤ budget) × Spoken says c t m × says m (last_of t) None c')

@@ -86,3 +86,13 @@ unreachable-requires g c =
     let p = c.loop.invariant.1.2.passed in
     let low = passed_low run.progress run.valid.bounded in
     omega (arith, c.loop-test.false)
+
+pub returns-in_default-clause-went : goal.returns-in_default-clause-went
+returns-in_default-clause-went g c = λ s h K. let V = c.loop.invariant.2 s h K in (H.then V.0 (advancing c.advance.result), c.advance.ensures.went s V.0 V.1)
+
+pub returns-in_err-map_err-clause-went : goal.returns-in_err-map_err-clause-went
+returns-in_err-map_err-clause-went g c =
+    λ s h K.
+    let V = c.loop.invariant.2 s h K in
+    let m = H.then V.0 (advancing c.advance.result) in
+    (H.then m (judging c.judge.result), c.judge.ensures.went s m (c.advance.ensures.went s V.0 V.1))

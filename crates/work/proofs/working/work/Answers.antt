@@ -15,7 +15,7 @@ returns-in_default-clause-told g c =
     λ s h L.
     let v = c.loop.invariant.1 s h L in
     let P : Option Reply → Type 0 = λ x. g.C.Caller.says c.loop.caller x None c.next.new.self in
-    (v.0, v.1, inr (c.loop.caller, v.2, subst P v.3 (c.in_default.ensures {u = tt})))
+    (v.0, v.1, inr (c.loop.caller, omega (arith, v.4, c.loop-test.true), v.2, subst P v.3 (c.in_default.ensures {u = tt})))
 
 pub loop-preserved : goal.loop-preserved
 loop-preserved g c =
@@ -25,7 +25,7 @@ loop-preserved g c =
       λ s h L.
           let v = i.1 s h L in
           let P : Option Reply → Type 0 = λ x. g.C.Caller.says c.loop.caller x (Some c.in-Some.call) c.next.new.self in
-          (said v.0 c.in-Some.call c.call.result, c.call.ensures.went s _ v.1, (c.loop.caller, v.2, subst P v.3 (c.in-Some.ensures {u = tt})), refl, omega (arith, v.4)),
+          (said v.0 c.in-Some.call c.call.result, c.call.ensures.went s _ v.1, (c.loop.caller, v.2, subst P v.3 (c.in-Some.ensures {u = tt}), c.call.ensures.fits), refl, omega (arith, v.4)),
     )
 
 pub returns-clause-kept : goal.returns-clause-kept

@@ -13,3 +13,8 @@ pub returns-clause-law : goal.returns-clause-law
 returns-clause-law g c =
     let run = c.args.self.now in
     λ s h L. lawful s (then h (reported (report_seen c.report.result))) (view run) (view run, L.1, (c.report.ensures (base_of run) (view run).recording, refl))
+
+pub returns-clause-went : goal.returns-clause-went
+returns-clause-went g c =
+    let run = c.args.self.now in
+    λ s h L. (L.0, (view run, L.1, (c.report.ensures (base_of run) (view run).recording, refl)))
