@@ -1,6 +1,5 @@
--- Whether a value is among others, and what that makes of a tree.
-use Rattle.std.proofs.Common.{◌≡◌, ℕ, ◌<◌, ◌≤◌, Bool, true, false, cond, ◌||◌, List, [], ◌∷◌, Option, Some, None, sym, refl, ap, ◌∙◌, arith}
-use Rattle.std.specs.List.{list_any}
+-- What the lowest node that fails makes of a tree.
+use Rattle.std.proofs.Common.{◌≡◌, ℕ, ◌<◌, ◌≤◌, Bool, true, false, cond, List, Option, Some, None, sym, refl, ap, ◌∙◌, arith}
 use Rattle.std.specs.Option.{MatchOption}
 use Rattle.std.proofs.lemmas.Bool.{lt-ltb}
 use Rattle.tree.specs.declared.node.Node.{Node}
@@ -10,11 +9,6 @@ use Rattle.judging.specs.declared.judgement.Judgement.{Judgement}
 use Rattle.judging.specs.declared.judgement.Judgement.TheVariants.{Admitted, Unadmitted}
 use Rattle.judging.specs.Codes.{code_of}
 use Rattle.meaning.specs.Judgements.{is_fine, judged_at, judgement}
-
--- two tests that agree find the same
-pub any_same : (f g : Node → Bool) → ((y : Node) → f y ≡ g y) → (ys : List Node) → list_any f ys ≡ list_any g ys
-any_same f g h [] = refl
-any_same f g h (y ∷ ys) = ap (λ b. b || list_any f ys) (h y) ∙ ap (λ b. g y || b) (any_same f g h ys)
 
 module _ (values : ℕ → List Node) (nodes : List Node) where
   -- the judgement by the lowest node that has none of its values

@@ -24,7 +24,9 @@ impl Values {
     fn admits(&self, tree: &Tree, n: usize) -> bool
         ensures { result ≡ is_fine (values_in self.now) tree.now.nodes n }
     {
-        self.of(n).contains(&tree.node(n))
+        let node = tree.node(n);
+        // No `contains`, for speed: its loop is made for long slices, and most nodes have one value.
+        self.of(n).iter().any(|value| *value == node)
     }
 
     /// Whether each node of a tree has one of its values; else the lowest that has not.

@@ -27,6 +27,8 @@ impl<S: ImageStore, F: FileSystem> Run<S, F> {
     }
 
     /// Makes a call: one arm for each transition and each refusal by the condition.
+    // Inlined, for speed: a caller knows which answers its call has, and room for the others need not be cleared.
+    #[inline(always)]
     pub(crate) fn turn(&mut self, call: Call) -> Result<Answer, Refusal>
         ensures kept { Kept self.old self.new }
         ensures fits { call_of (event_of (call_seen call.entry) result) ≡ call_seen call.entry }

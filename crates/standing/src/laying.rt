@@ -67,6 +67,8 @@ impl Choice {
         ensures onward { (p k : ℕ) → Whole (effects_of trace.now) → Stands (recording_of (S.ImageStore.sectors state.old.below) trace.now) p k self.old (shown S.ImageStore.sectors state.old) → Onward (recording_of (S.ImageStore.sectors state.old.below) trace.now) p k self.new (shown S.ImageStore.sectors state.new) result }
     {
         let count = state.below.count();
+        // Moved on in a copy, which is let go after the last state. Lending the field itself was tried: beside ghost
+        // fields it has no proof.
         let mut places = self.places;
         let Some(first) = points::advance(&mut places[..count], &self.counts[..count]).unwrap()
         else {
