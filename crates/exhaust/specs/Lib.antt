@@ -1,1 +1,3 @@
 pub mod Exhausted
+pub mod Told
+pub mod Stops

@@ -1,13 +1,15 @@
 //! The search.
-ghost use Rattle.std.specs.Prelude.{◌≡◌, IfOk, Err};
+ghost use Rattle.std.specs.Prelude.{◌≡◌, IfOk, IfErr, Err};
 ghost use Rattle.law.specs.Subject.{Subject};
 ghost use Rattle.law.specs.History.{History};
 ghost use Rattle.progress.specs.Reports.{report_seen};
 ghost use Rattle.run.specs.declared.refusal.Refusal.{Refusal};
-ghost use Rattle.run.specs.Seen.{Goes, Kept, Led};
+ghost use Rattle.run.specs.Seen.{Goes, Kept, Led, subject};
 ghost use Rattle.run.specs.Typed.{loading};
 ghost use Rattle.exhaust.specs.declared.watch.Stopped.TheVariants.{Declined};
 ghost use Rattle.exhaust.specs.Exhausted.{Exhausted};
+ghost use Rattle.exhaust.specs.Stops.{ByWatcher};
+ghost use Rattle.exhaust.specs.Told.{ToldAll, ToldUpTo};
 
 use crate::watch::{Stopped, Watch};
 use filesystem::FileSystem;
@@ -30,6 +32,8 @@ pub fn explore_all<S: ImageStore, F: FileSystem, W: Watch>(
     ensures kept { Kept run.old run.new }
     ensures declined { (f : Refusal) → result ≡ Err (Declined f) → Goes run.old (loading recording.now (Err f)) run.new }
     ensures went { (s : Subject) (h : History) → Led s h run.old → (k : History) × Led s k run.new }
+    ensures heard { IfOk result (λ report. ToldAll W.Watch.hears (subject run.old) recording.now watch.old watch.new) }
+    ensures stopped { IfErr result (ByWatcher (λ stop. ToldUpTo W.Watch.hears (subject run.old) recording.now watch.old stop watch.new)) }
     ensures explored { (s : Subject) (h : History) → Led s h run.old → IfOk result (λ report. Exhausted s recording.now (report_seen report)) }
 {
     run.load(recording)?;
@@ -39,7 +43,9 @@ pub fn explore_all<S: ImageStore, F: FileSystem, W: Watch>(
             return Ok(run.report());
         };
         let found = run.judge().unwrap();
-        watch.judged(point, rank, found).map_err(Stopped::Watcher)?;
+        if let Err(stop) = watch.judged(point, rank, found) {
+            return Err(Stopped::Watcher(stop));
+        }
     }
     unreachable!()
 }

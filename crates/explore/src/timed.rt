@@ -1,4 +1,6 @@
 //! A watcher that tells on standard error how far an exploration is.
+ghost use Rattle.std.specs.Prelude.{◌≡◌, Ok, OnOk};
+
 use console::Failed;
 use exhaust::Watch;
 use judging::Judgement;
@@ -30,7 +32,9 @@ impl<'a, 'b, W> Timed<'a, 'b, W> {
     }
 
     /// Tells how far it is, if a second has passed since it was told last.
-    fn tell(&mut self, point: usize) -> Result<(), Failed> {
+    fn tell(&mut self, point: usize) -> Result<(), Failed>
+        ensures { self.new.watch.now ≡ self.old.watch.now }
+    {
         let passed = self.begun.elapsed(self.rt)?;
         if passed.saturating_sub(self.told).as_secs() == 0 {
             return Ok(());
@@ -45,6 +49,8 @@ impl<'a, 'b, W> Timed<'a, 'b, W> {
 
 impl<W: Watch<Stop = Failed>> Watch for Timed<'_, '_, W> {
     type Stop = Failed;
+
+    ghost hears = { λ w x found r v. OnOk r (W.Watch.hears w.watch.now x found (Ok tt) v.watch.now) };
 
     fn judged(&mut self, point: usize, rank: u64, found: Judgement) -> Result<(), Failed> {
         self.watch.judged(point, rank, found)?;

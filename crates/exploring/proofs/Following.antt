@@ -21,7 +21,7 @@ module _ {C : Type 0} (says : C → Option Reply → Option Call → C → Type 
     (chooses : (s : C) (last : Option Reply) (call : Option Call) (t : C) → says s last call t → Chosen (bytes s) (script s) (script t) (failed t) call × (bytes t ≡ bytes s)) where
   spoken : (c m : C) (t : Talk) → T.Spoken says c t m → (map (meant (bytes c)) (script c) ≡ made t ++ map (meant (bytes c)) (script m)) × (bytes m ≡ bytes c)
   spoken c m silent e = (ap (λ x. map (meant (bytes c)) (script x)) (sym e), ap bytes e)
-  spoken c m (said t call reply) (n, before, now) =
+  spoken c m (said t call reply) (n, before, now, fits) =
       let i = spoken c n t before in
       let d = chooses n (last_of t) (Some call) m now in
       let (word, cut, is) = d.0 in
@@ -45,7 +45,7 @@ module _ {C : Type 0} (says : C → Option Reply → Option Call → C → Type 
             omega arith
             ),
       )
-  followed c c' budget t well room (inr (m, s, now)) good =
+  followed c c' budget t well room (inr (m, few, s, now)) good =
       let i = spoken c m t s in
       let d = chooses m (last_of t) None c' now in (
         script m,

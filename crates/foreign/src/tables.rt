@@ -1,4 +1,6 @@
 //! Runs over the store and the file system of this crate, and over a pile.
+ghost use Rattle.std.specs.Prelude.{◌≡◌, Ok};
+
 use crate::{Counted, Faulty, Searched, Twice, judge_first, load_twice, search_pile};
 use exhaust::{Stopped, Watch};
 use image::{Flat, ImageStore, Refusal};
@@ -58,6 +60,8 @@ struct Told {
 
 impl Watch for Told {
     type Stop = ();
+
+    ghost hears = { λ _ _ _ r _. r ≡ Ok tt };
 
     fn judged(&mut self, _point: usize, _rank: u64, _found: Judgement) -> Result<(), ()> {
         self.states = self.states.saturating_add(1);

@@ -1,5 +1,5 @@
 -- A search is loaded, goes on, and ends.
-use Rattle.std.proofs.Common.{◌≡◌, ℕ, Ok, Option, Result, sym, ap, ◌∙◌, subst, inl, arith}
+use Rattle.std.proofs.Common.{◌≡◌, ℕ, Ok, Option, Result, sym, refl, ap, ◌∙◌, subst, inl, arith}
 use Rattle.law.specs.Subject.{Subject, takes}
 use Rattle.law.specs.History as H
 use Rattle.law.specs.Steps.{Step}
@@ -10,6 +10,8 @@ use Rattle.run.specs.declared.refusal.Refusal.{Refusal}
 use Rattle.run.specs.Seen.{subject, view}
 use Rattle.run.specs.Typed.{advancing, judging, loading}
 use Rattle.exhaust.proofs.Onward.{loads, ready_bounds, passed_low, advance_ok, goes_on, over}
+use Rattle.exhaust.specs.Told.{quiet, told}
+use Rattle.exhaust.proofs.Telling.{at_first, up_to_now, found_right, one_more, all_told}
 use Rattle.exhaust.proofs.Ending.{ending}
 use Rattle.exhaust.proofs.explore.explore_all.Goals as goal
 
@@ -21,7 +23,7 @@ loop-init g c =
     let L = loads (subject start) c.args.recording.now (view start) (view run) E.goes in
     let b = ready_bounds run.progress run.valid.bounded L.3 in (
       E.kept,
-      (L.0, L.1, record { recording = L.2; none_forgone = b.1; passed = b.0; ready = inl L.3 }),
+      (L.0, L.1, record { recording = L.2; none_forgone = b.1; passed = b.0; ready = inl L.3 }, (quiet, refl, at_first (subject start) L.0 (view run) L.3 ((subject start).sound c.args.recording.now L.0 L.1))),
       λ s h K. (H.then h (loading c.args.recording.now (Ok c.in_ok-load.field-0)), E.went s h K),
     )
 
@@ -50,8 +52,8 @@ returns-in_default-clause-explored g c =
     let taken : s.loads c.args.recording.now ≡ takes G.0 = ap (λ (x : Subject). x.loads c.args.recording.now) (sym K.0) ∙ G.1 in
     ending s m (view run) led.1 O.ended O.none_forgone c.args.recording.now G.0 taken O.recording (report_seen c.report.result) c.report.ensures.figures
 
-pub returns-in_err-map_err-clause-kept : goal.returns-in_err-map_err-clause-kept
-returns-in_err-map_err-clause-kept g c =
+pub returns-in-Err-clause-kept : goal.returns-in-Err-clause-kept
+returns-in-Err-clause-kept g c =
     let i = c.loop.invariant.0 in
     let k = c.advance.ensures.kept in
     let j = c.judge.ensures.kept in
@@ -59,11 +61,13 @@ returns-in_err-map_err-clause-kept g c =
 
 pub loop-preserved : goal.loop-preserved
 loop-preserved g c =
+    let start = c.args.run.now in
     let before = c.loop.run in
     let middle = c.advance.new.self in
     let run = c.judge.new.self in
     let i = c.loop.invariant in
     let G = i.1 in
+    let told_so = G.3 in
     let k = c.advance.ensures.kept in
     let j = c.judge.ensures.kept in
     let x : ℕ × ℕ = (c.in-Some.point, c.in-Some.rank) in
@@ -73,12 +77,66 @@ loop-preserved g c =
     let Q : Result Judgement Refusal → Type 0 = λ r. Step (subject middle) (view middle) (judging r) (view run) in
     let T : Step (subject middle) (view middle) (H.found (J.code_of found).0 (J.code_of found).1) (view run) = subst Q c.unwrap-found.ensures c.judge.ensures.goes in (
       (j.0 ∙ k.0 ∙ i.0.0, j.1 ∙ k.1 ∙ i.0.1),
-      (G.0, G.1, goes_on (subject before) (subject middle) G.0 c.loop.counter (view before) (view middle) (view run) x (J.code_of found).0 (J.code_of found).1 G.2 S T),
+      (
+        G.0,
+        G.1,
+        goes_on (subject before) (subject middle) G.0 c.loop.counter (view before) (view middle) (view run) x (J.code_of found).0 (J.code_of found).1 G.2 S T,
+        (
+          told told_so.0 x found,
+          (c.loop.watch, told_so.1, c.in_default-judged.ensures {u = tt}),
+          one_more (subject start) (subject before) G.0 (view before) (view middle) x told_so.0 G.2.recording told_so.2 S (subject middle) (view run) found T,
+        ),
+      ),
       λ s h K.
           let V = i.2 s h K in
           let m = H.then V.0 (advancing c.advance.result) in
           (H.then m (judging c.judge.result), c.judge.ensures.went s m (c.advance.ensures.went s V.0 V.1)),
     )
+
+pub returns-in-Err-clause-stopped : goal.returns-in-Err-clause-stopped
+returns-in-Err-clause-stopped g c =
+    let start = c.args.run.now in
+    let before = c.loop.run in
+    let middle = c.advance.new.self in
+    let run = c.judge.new.self in
+    let G = c.loop.invariant.1 in
+    let told_so = G.3 in
+    let x : ℕ × ℕ = (c.in-Some.point, c.in-Some.rank) in
+    let found = c.unwrap-found.result in
+    let P : Result (Option (ℕ × ℕ)) Refusal → Type 0 = λ r. Step (subject before) (view before) (advancing r) (view middle) in
+    let S : Step (subject before) (view before) (H.gave x) (view middle) = subst P (c.unwrap.ensures ∙ ap Ok c.in-Some.is) c.advance.ensures.goes in
+    let Q : Result Judgement Refusal → Type 0 = λ r. Step (subject middle) (view middle) (judging r) (view run) in
+    let T : Step (subject middle) (view middle) (H.found (J.code_of found).0 (J.code_of found).1) (view run) = subst Q c.unwrap-found.ensures c.judge.ensures.goes in
+    record {
+      recording = G.0;
+      taken = G.1;
+      telling = told_so.0;
+      state = x;
+      found = found;
+      watcher = c.loop.watch;
+      heard = told_so.1;
+      stopped = c.in-Err.ensures {u = tt};
+      states = up_to_now (subject start) (subject before) G.0 (view before) (view middle) x told_so.0 G.2.recording told_so.2 S;
+      right = found_right (subject start) (subject before) G.0 (view before) (view middle) x told_so.0 G.2.recording told_so.2 S (subject middle) (view run) found T;
+    }
+
+pub returns-in_default-clause-heard : goal.returns-in_default-clause-heard
+returns-in_default-clause-heard g c =
+    let start = c.args.run.now in
+    let before = c.loop.run in
+    let run = c.advance.new.self in
+    let G = c.loop.invariant.1 in
+    let told_so = G.3 in
+    let P : Result (Option (ℕ × ℕ)) Refusal → Type 0 = λ r. Step (subject before) (view before) (advancing r) (view run) in
+    let S : Step (subject before) (view before) H.ended (view run) = subst P (c.unwrap.ensures ∙ ap Ok c.in_default.is) c.advance.ensures.goes in
+    record {
+      recording = G.0;
+      taken = G.1;
+      telling = told_so.0;
+      heard = told_so.1;
+      states = all_told (subject start) (subject before) G.0 (view before) (view run) told_so.0 G.2.recording told_so.2 S;
+      right = told_so.2.right;
+    }
 
 pub unreachable-requires : goal.unreachable-requires
 unreachable-requires g c =
@@ -90,8 +148,8 @@ unreachable-requires g c =
 pub returns-in_default-clause-went : goal.returns-in_default-clause-went
 returns-in_default-clause-went g c = λ s h K. let V = c.loop.invariant.2 s h K in (H.then V.0 (advancing c.advance.result), c.advance.ensures.went s V.0 V.1)
 
-pub returns-in_err-map_err-clause-went : goal.returns-in_err-map_err-clause-went
-returns-in_err-map_err-clause-went g c =
+pub returns-in-Err-clause-went : goal.returns-in-Err-clause-went
+returns-in-Err-clause-went g c =
     λ s h K.
     let V = c.loop.invariant.2 s h K in
     let m = H.then V.0 (advancing c.advance.result) in

@@ -1,0 +1,8 @@
+-- Why a search came to no end.
+use Rattle.exhaust.specs.declared.watch.Stopped.{Stopped}
+use Rattle.exhaust.specs.declared.watch.Stopped.TheVariants.{Declined, Watcher}
+
+-- the watcher stopped it, and of what it answered so much is so
+abbrev pub ByWatcher : {E : Type 0} → (E → Type 0) → Stopped E → Type 0
+ByWatcher P (Declined refusal) = Unit {0}
+ByWatcher P (Watcher stop) = P stop
