@@ -68,11 +68,22 @@ impl<'a> Usage<'a> {
             program.rt.println(text)?;
             return Ok(());
         }
-        let Ok(given) = A::try_from(words) else {
-            let (name, wanted) = (self.name, self.wanted);
-            return Err(program.refused(format_args!("{wanted}; {name} --help says more")));
-        };
-        work(program, given)
+        match A::try_from(words) {
+            Ok(given) => work(program, given),
+            Err(words) => Err(self.not_understood(&program, words.as_slice())),
+        }
+    }
+
+    /// Says why the words are not what is wanted: a word of them looks like an option, or else they are
+    /// too few, too many, or others.
+    fn not_understood(&self, program: &Program, words: &[String]) -> Failed {
+        let (name, wanted) = (self.name, self.wanted);
+        match words.iter().find(|word| word.as_str().starts_with("--")) {
+            Some(option) => program.refused(format_args!(
+                "{option} is not understood here; {name} --help says more"
+            )),
+            None => program.refused(format_args!("{wanted}; {name} --help says more")),
+        }
     }
 
     /// The text that the words ask for, if they ask for one.

@@ -57,7 +57,7 @@ abbrev pub ranked : ℕ → ℕ → List Image → List State
 ranked p r [] = []
 ranked p r (x ∷ xs) = record { point = p; rank = r; image = x } ∷ ranked p (r + 1) xs
 
--- THE POINTS of the list: 0 to n. Everything else knows only this name and its laws (ListIsTheStates in Laws).
+-- THE POINTS of the list: 0 to n. Other files know this name and its laws (ListIsTheStates in Laws).
 unfoldable pub points : Recording → List ℕ
 points d = range_with_len 0 (length d.effects + 1)
 

@@ -13,7 +13,7 @@ use Rattle.progress.specs.Views.{condition_of}
 use Rattle.progress.specs.Bounds.{Bounded, at_sum, at_room, ceiling}
 use Rattle.run.specs.declared.refusal.Refusal.{Refusal}
 use Rattle.run.specs.Refusals.{code_of}
-use Rattle.run.specs.Events.{declined_by}
+use Rattle.run.specs.Events.{declining}
 use Rattle.run.specs.Typed.{advancing, judging}
 
 -- Nothing is forgone, so many states are passed, and the next is to be given.
@@ -57,7 +57,7 @@ accepted : (c : H.Condition) → (c ≡ H.Ready) ⊎ (c ≡ H.Judged) → of_adv
 accepted c (inl e) = ap of_advance e
 accepted c (inr e) = ap of_advance e
 
-declines_not : (s : Subject) (v w : View) (o : Option (ℕ × ℕ)) → of_advance v.condition ≡ none → Step s v (declined_by H.advance o) w → ⊥
+declines_not : (s : Subject) (v w : View) (o : Option (ℕ × ℕ)) → of_advance v.condition ≡ none → Step s v (declining H.advance o) w → ⊥
 declines_not s v w (Some c) a S = let d : None ≡ Some (c.0, c.1) = sym a ∙ S.0 in cc
 declines_not s v w None a S = let d : None ≡ Some (0, 0) = sym a ∙ S.0 in cc
 
@@ -65,7 +65,7 @@ pub advance_ok : (s : Subject) (R : Recording) (n : ℕ) (v w : View) → Going 
 advance_ok s R n v w G (Ok x) S = refl
 advance_ok s R n v w G (Err f) S = absurd (declines_not s v w (code_of f) (accepted v.condition G.ready) S)
 
-judge_declines_not : (s : Subject) (v w : View) (o : Option (ℕ × ℕ)) → of_judge v.condition ≡ none → Step s v (declined_by H.judge o) w → ⊥
+judge_declines_not : (s : Subject) (v w : View) (o : Option (ℕ × ℕ)) → of_judge v.condition ≡ none → Step s v (declining H.judge o) w → ⊥
 judge_declines_not s v w (Some c) a S = let d : None ≡ Some (c.0, c.1) = sym a ∙ S.0 in cc
 judge_declines_not s v w None a S = let d : None ≡ Some (0, 0) = sym a ∙ S.0 in cc
 

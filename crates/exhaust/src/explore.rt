@@ -1,10 +1,10 @@
 //! The search.
 ghost use Rattle.std.specs.Prelude.{◌≡◌, IfOk, IfErr, Err};
 ghost use Rattle.law.specs.Subject.{Subject};
-ghost use Rattle.law.specs.History.{History};
+ghost use Rattle.law.specs.History.{Ended, History};
 ghost use Rattle.progress.specs.Reports.{report_seen};
 ghost use Rattle.run.specs.declared.refusal.Refusal.{Refusal};
-ghost use Rattle.run.specs.Seen.{Goes, Kept, Led, subject};
+ghost use Rattle.run.specs.Seen.{Goes, Kept, Led, subject, view};
 ghost use Rattle.run.specs.Typed.{loading};
 ghost use Rattle.exhaust.specs.declared.watch.Stopped.TheVariants.{Declined};
 ghost use Rattle.exhaust.specs.Exhausted.{Exhausted};
@@ -34,6 +34,7 @@ pub fn explore_all<S: ImageStore, F: FileSystem, W: Watch>(
     ensures went { (s : Subject) (h : History) → Led s h run.old → (k : History) × Led s k run.new }
     ensures heard { IfOk result (λ report. ToldAll W.Watch.hears (subject run.old) recording.now watch.old watch.new) }
     ensures stopped { IfErr result (ByWatcher (λ stop. ToldUpTo W.Watch.hears (subject run.old) recording.now watch.old stop watch.new)) }
+    ensures ended { IfOk result (λ _. (view run.new).condition ≡ Ended) }
     ensures explored { (s : Subject) (h : History) → Led s h run.old → IfOk result (λ report. Exhausted s recording.now (report_seen report)) }
 {
     run.load(recording)?;

@@ -58,7 +58,7 @@ impl Options {
         Some(())
     }
 
-    /// Takes the option at `i` out of the words, and its file too; none if there is no such option.
+    /// Takes the option at `i` out of the words, and its file too; none if it lacks the file, or says again how it is printed.
     fn take(&mut self, words: &mut Vec<String>, i: usize) -> Option<()>
         ensures { OnSome result (vec_len words.new < vec_len words.old) }
     {
@@ -88,7 +88,12 @@ fn take_word(words: &mut Vec<String>, i: usize) -> Option<String>
     }
 }
 
-/// Takes the options out of the words, wherever they stand; none if one is no option.
+/// Whether the word is an option.
+fn is_option(word: &str) -> bool {
+    matches!(word, "--progress" | "--plain" | "--quiet" | "--script")
+}
+
+/// Takes the options out of the words, wherever they stand; none if one is not understood. One that is no option is left.
 fn take_options(words: &mut Vec<String>) -> Option<Options> {
     let mut options = Options {
         how: None,
@@ -96,8 +101,11 @@ fn take_options(words: &mut Vec<String>) -> Option<Options> {
     };
     let mut i = 0;
     while i < words.len() {
-        if words[i].as_str().starts_with("--") {
+        let word = words[i].as_str();
+        if is_option(word) {
             options.take(words, i)?;
+        } else if word.starts_with("--") {
+            return None;
         } else {
             i += 1;
         }

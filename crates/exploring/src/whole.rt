@@ -3,10 +3,11 @@ ghost use Rattle.std.specs.Prelude.{IfErr, IfOk, IfSome, OnOk};
 ghost use Rattle.std.specs.Io.KnownBytes.{Appends};
 ghost use Rattle.meaning.specs.Subjects.{subject_of};
 ghost use Rattle.progress.specs.Reports.{report_seen};
+ghost use Rattle.run.specs.Refusals.{code_of};
 ghost use Rattle.exhaust.specs.Exhausted.{Exhausted};
-ghost use Rattle.exhaust.specs.Stops.{ByWatcher};
+ghost use Rattle.exhaust.specs.Stops.{ByRun, ByWatcher};
 ghost use Rattle.exhaust.specs.Told.{ToldAll, ToldUpTo};
-ghost use Rattle.exploring.specs.Outcomes.{outcome_line};
+ghost use Rattle.exploring.specs.Outcomes.{DeclinedAs, outcome_line};
 
 use crate::lines::{write_refusal, write_report};
 use console::Failed;
@@ -29,6 +30,7 @@ pub fn explore<S: ImageStore + Drop, F: FileSystem + Drop, W: Watch<Stop = Faile
     recording: &[u8],
     watch: &mut W,
 ) -> Outcome
+    ensures declined { IfErr result (ByRun (λ refusal. DeclinedAs (subject_of F.FileSystem.LEAST (F.FileSystem.outcome fs) (S.ImageStore.sectors base)) recording.now (code_of refusal))) }
     ensures heard { IfOk result (λ report. ToldAll W.Watch.hears (subject_of F.FileSystem.LEAST (F.FileSystem.outcome fs) (S.ImageStore.sectors base)) recording.now watch.old watch.new) }
     ensures stopped { IfErr result (ByWatcher (λ stop. ToldUpTo W.Watch.hears (subject_of F.FileSystem.LEAST (F.FileSystem.outcome fs) (S.ImageStore.sectors base)) recording.now watch.old stop watch.new)) }
     ensures explored { IfOk result (λ report. Exhausted (subject_of F.FileSystem.LEAST (F.FileSystem.outcome fs) (S.ImageStore.sectors base)) recording.now (report_seen report)) }

@@ -16,7 +16,8 @@ pub struct Twice<S> {
 }
 
 /// Loads a recording twice with a file system that always faults. Both loads are declined since the
-/// base does not recover, so the run stays Empty: the second is not told that one is loaded.
+/// base does not recover, whatever memory is there, so the run stays Empty: the second is not told
+/// that one is loaded.
 pub fn load_twice<S: ImageStore>(heap: Global, store: S, fs: Faulty, recording: &[u8]) -> Twice<S>
     ensures store { result.store ≡ store }
     ensures first { NoBase (length (S.sectors store)) result.first }

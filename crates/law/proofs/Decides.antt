@@ -7,7 +7,7 @@ use Rattle.law.specs.Subject.{Subject, Recording, State, image, list}
 use Rattle.law.specs.History.{Call, load, advance, judge, forgo, look, report, Report, Event, declined, starved, loaded, gave, ended, found, forwent, showed, reported, History, then, condition, recording, given, skipped, up_to}
 use Rattle.law.specs.Rules.{Refusal, refusal}
 use Rattle.law.specs.Steps.{View, Step, next, report_on, on_load, on_giving, on_end, on_judge, on_forgo}
-use Rattle.law.specs.Law.{call_of, declined_by, standing_image, judgement_of, report_of, Law, Fed, TheLawDecides, EveryCallIsAnswered}
+use Rattle.law.specs.Law.{call_of, declined_by, standing_image, judgement_of, report_of, Law, Fed, Settled, TheLawDecides, EveryCallIsAnswered}
 use Rattle.law.proofs.States.{same}
 
 -- one of two lists begins the other
@@ -74,6 +74,18 @@ predicted s h forgo None a = forwent
 predicted s h (look sector size) None a = showed sector size (get_or (standing_image s h) sector [])
 predicted s h report None a = reported (report_of s h)
 
+-- an answer other than a want of memory is settled
+settled : (s : Subject) (e : Event) → Fed e → Settled s e
+settled s (declined call n p) F = tt
+settled s (starved bytes) F = absurd F
+settled s (loaded bytes) F = tt
+settled s (gave x) F = tt
+settled s ended F = tt
+settled s (found o n) F = tt
+settled s forwent F = tt
+settled s (showed sector size content) F = tt
+settled s (reported r) F = tt
+
 module _ (s : Subject) (h : History) where
   is_predicted : (e : Event) (b : Image) → Fed e → Law s (then h e) b → e ≡ predicted s h (call_of e) (declined_by e) (answer e)
   is_predicted (declined call n p) b F L = refl
@@ -121,10 +133,10 @@ module _ (s : Subject) (h : History) where
 pub decides : TheLawDecides
 decides s h e f b c L M q F G =
     let by-rule : Event → Event = λ x. predicted s h (call_of x) (refusal s (condition h) (call_of x)) (answer x) in
-    let E : e ≡ predicted s h (call_of e) (refusal s (condition h) (call_of e)) (answer e) = is_predicted s h e b F L ∙ ap (λ (r : Refusal). predicted s h (call_of e) r (answer e)) (L.declined_exactly h e (inl (refl, refl)) F) in
+    let E : e ≡ predicted s h (call_of e) (refusal s (condition h) (call_of e)) (answer e) = is_predicted s h e b F L ∙ ap (λ (r : Refusal). predicted s h (call_of e) r (answer e)) (L.declined_exactly h e (inl (refl, refl)) (settled s e F)) in
     let D : f ≡ predicted s h (call_of e) (refusal s (condition h) (call_of e)) (answer f) =
     is_predicted s h f c G M
-    ∙ ap (λ (r : Refusal). predicted s h (call_of f) r (answer f)) (M.declined_exactly h f (inl (refl, refl)) G)
+    ∙ ap (λ (r : Refusal). predicted s h (call_of f) r (answer f)) (M.declined_exactly h f (inl (refl, refl)) (settled s f G))
     ∙ ap (λ (x : Call). predicted s h x (refusal s (condition h) x) (answer f)) (sym q) in
     let P : Event → Type 0 = λ x. Law s (then h x) b in
     let Q : Event → Type 0 = λ x. Law s (then h x) c in

@@ -5,11 +5,11 @@ use Rattle.std.proofs.lemmas.List.{get_or_default}
 use Rattle.std.proofs.lemmas.Bool.{cases_Bool, ltb-false, both_ways, cond-true, cond-false}
 use Rattle.image.specs.Sectors.{Image}
 use Rattle.filesystem.specs.Outcomes.{Outcome, a_tree, a_fault}
-use Rattle.law.specs.Subject.{Subject, Recording, Sound, State, Admits, Judges, image, list, meaning}
+use Rattle.law.specs.Subject.{Subject, Recording, Sound, State, Admits, Judges, Loading, takes, image, list, meaning}
 use Rattle.law.specs.History.{Report, Event, declined, starved, loaded, gave, ended, found, forwent, showed, reported, History, begun, then, Condition, Empty, Ready, Waiting, Judged, Left, Ended, condition, recording, given, standing, judged, unsafe, first, forgone, skipped, passed, if_found}
-use Rattle.law.specs.Rules.{refusal, verdict_of}
+use Rattle.law.specs.Rules.{none, of_load, refusal, Late, verdict_of}
 use Rattle.law.specs.Steps.{View, Step, Reached, report_on}
-use Rattle.law.specs.Law.{Made, call_of, declined_by, Fed, Once, standing_image, judgement_of, report_of, AllRecover, Safe, EveryHistoryIsLawful}
+use Rattle.law.specs.Law.{Made, call_of, declined_by, Settled, Once, standing_image, judgement_of, report_of, unsafe_among, AllRecover, Safe, EveryHistoryIsLawful}
 use Rattle.law.proofs.States.{all_list, once_kept}
 use Rattle.law.proofs.Facts.{part, in_hand, Place, Fine, Facts, follows, closes, loading, judging, on_load, on_giving, on_end, on_judge, on_forgo, length_forgo, agree, once_part}
 
@@ -34,7 +34,7 @@ told s h = told_with s h (length (part_of s h))
 -- what an answer says is so
 abbrev pub Good : Subject → History → Event → Type 0
 Good s h (declined call n p) = Unit {0}
-Good s h (starved bytes) = condition h ≡ Empty
+Good s h (starved bytes) = (condition h ≡ Empty) × Late (s.loads bytes)
 Good s h (loaded bytes) = Unit {0}
 Good s h (gave x) = Unit {0}
 Good s h ended = Unit {0}
@@ -44,7 +44,7 @@ Good s h (showed sector size content) = content ≡ get_or (standing_image s h) 
 Good s h (reported r) = (r ≡ report_of s h) × ((r.verdict ≡ 2) ↔ Safe s h)
 
 abbrev pub Each : Subject → History → Event → Type 0
-Each s h e = (Fed e → declined_by e ≡ refusal s (condition h) (call_of e)) × Good s h e
+Each s h e = (Settled s e → declined_by e ≡ refusal s (condition h) (call_of e)) × Good s h e
 
 abbrev pub Throughout : Subject → History → Type 0
 Throughout s begun = Unit {0}
@@ -94,13 +94,21 @@ module _ (s : Subject) (h : History) (K : Core s h) where
   sound : condition h ≡ Ended → Sound s.base s.outcome (recording s h)
   sound e = let P : Condition → Type 0 = λ c. Place s (recording s h) c (standing h) in subst P e K.place
 
+  -- where nothing was forgone and the run has ended, every state of the list was judged
+  whole_list : condition h ≡ Ended → forgone s h ≡ 0 → judged_states h ≡ list (recording s h)
+  whole_list e f0 =
+      let Q : Condition → Type 0 = λ c. judged_states h ++ in_hand c (standing h) ≡ part (recording s h) c (standing h) in
+      sym (append-nil (judged_states h)) ∙ subst Q e (K.full f0)
+
+  pub all_counted : condition h ≡ Ended → forgone s h ≡ 0 → unsafe h ≡ length (unsafe_among (recording s h) (list (recording s h)))
+  all_counted e f0 = K.counted ∙ ap (λ (t : List State). length (unsafe_among (recording s h) t)) (whole_list e f0)
+
   recovers : condition h ≡ Ended → unsafe h ≡ 0 → forgone s h ≡ 0 → AllRecover s (recording s h)
   recovers e u0 f0 p l im perm =
       let R : Recording = recording s h in
       let S = sound e in
       let H : Has (R.states p) im = (S.exact p l im).1 perm in
-      let Q : Condition → Type 0 = λ c. judged_states h ++ in_hand c (standing h) ≡ part R c (standing h) in
-      let whole : judged_states h ≡ list R = sym (append-nil (judged_states h)) ∙ subst Q e (K.full f0) in
+      let whole : judged_states h ≡ list R = whole_list e f0 in
       let P : List State → Type 0 = λ t. AllByRecursion (Fine R) t in
       let fine : Fine R (p, H.0) = all_list (Fine R) R (p, H.0) l H.1 (subst P whole (K.none_bad u0)) in
       let zero : (R.judgement p im).0 ≡ 0 = ap (λ (i : Image). (R.judgement p i).0) (sym (H.2 [])) ∙ fine in
@@ -137,9 +145,13 @@ pub record More (s : Subject) (h : History) (e : Event) (v : View) : Type 0 wher
   pub core : Core s (then h e)
   pub each : Each s h e
 
+-- an Empty run accepts the load of a recording that is taken
+accepted : (s : Subject) (h : History) (bytes : List ℕ) → condition h ≡ Empty → (R : Recording) → s.loads bytes ≡ takes R → of_load (s.loads bytes) (condition h) ≡ none
+accepted s h bytes c R t = ap (λ (d : Condition). of_load (s.loads bytes) d) c ∙ ap (λ (l : Loading). of_load l Empty) t
+
 more : (s : Subject) (h : History) (e : Event) (v : View) → Core s h → Step s (told s h) e v → More s h e v
 more s h (declined call n p) v K S = record { told_by = S.1; core = K; each = ((λ f. sym S.0), tt) }
-more s h (starved bytes) v K S = record { told_by = S.1; core = K; each = ((λ f. absurd f), S.0) }
+more s h (starved bytes) v K S = record { told_by = S.2; core = K; each = ((λ f. sym (accepted s h bytes S.0 f.0 f.1)), (S.0, S.1)) }
 more s h (loaded bytes) v K S =
     let t = loading (s.loads bytes) (condition h) S.0 in
     let x = standing h in
@@ -189,7 +201,7 @@ pub record Held (s : Subject) (h : History) (v : View) : Type 0 where
   pub throughout : Throughout s h
 
 core_begun : (s : Subject) → Core s begun
-core_begun s = record { place = tt; given = refl; behind = λ y e. absurd (both_ways false refl e); sum = refl; full = λ e. refl; few = omega arith; none_bad = λ e. tt; all_fine = λ a. refl }
+core_begun s = record { place = tt; given = refl; behind = λ y e. absurd (both_ways false refl e); sum = refl; full = λ e. refl; few = omega arith; none_bad = λ e. tt; all_fine = λ a. refl; counted = refl }
 
 pub held : (s : Subject) (h : History) (v : View) → Reached s h v → Held s h v
 held s begun v R = record { told_by = R; core = core_begun s; throughout = tt }
@@ -219,7 +231,8 @@ lawful s h v R =
     record {
       base_kept = ap (λ (w : View). w.base) H.told_by;
       declined_exactly = λ k e m. (made s h k e H.throughout m).0;
-      starved_empty = λ k bytes m. (made s h k (starved bytes) H.throughout m).1;
+      starved_empty = λ k bytes m. (made s h k (starved bytes) H.throughout m).1.0;
+      starved_late = λ k bytes m. (made s h k (starved bytes) H.throughout m).1.1;
       given_in_order = K.given ∙ ap (λ (t : List State). filter n t) (sym same);
       given_once = subst O (sym K.given) (once_kept n (part_of s h) (once_part (recording s h) (condition h) (standing h)));
       looks_show = λ k sector size content m. (made s h k (showed sector size content) H.throughout m).1;

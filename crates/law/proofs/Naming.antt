@@ -1,7 +1,7 @@
 -- The state that a history names is the first unsafe one of the list, where nothing was forgone.
 use Rattle.std.proofs.Common.{◌≡◌, ℕ, zero, suc, ◌+◌, ◌<◌, ◌≤◌, Bool, true, false, cond, not, ◌&&◌, eqb, ◌⊎◌, List, [], ◌∷◌, ◌++◌, length, sym, refl, ap, ◌∙◌, subst, inl, inr, ⊎_elim, arith}
 use Rattle.std.specs.List.{AllByRecursion}
-use Rattle.std.proofs.lemmas.Bool.{cases_Bool, cases_order, eqb-true, eq-eqb, cond-true, cond-false, and_from, and_left}
+use Rattle.std.proofs.lemmas.Bool.{cases_Bool, cases_order, eqb-true, eq-eqb, cond-true, cond-false, and_from, and_left, and_right}
 use Rattle.std.proofs.lemmas.List.{append_cancel_right}
 use Rattle.law.specs.Subject.{Subject, Recording, Sound, State, Admits, count, image, ranks, front}
 use Rattle.law.specs.History.{Event, declined, starved, loaded, gave, ended, found, forwent, showed, reported, History, begun, then, Condition, Waiting, Empty, condition, recording, given, standing, judged, unsafe, first, bad, forgone, skipped}
@@ -92,6 +92,26 @@ module _ (s : Subject) (h : History) (K : Core s h) where
       above : (n : ℕ) → eqb n 0 ≡ false → 0 < n
       above zero e = absurd (let c : true ≡ false = e in cc)
       above (suc n) e = omega arith
+
+-- a history with nothing judged unsafe names no state
+one_more_fine : (h : History) (o n : ℕ) → unsafe h + bad o ≡ 0 → (unsafe h ≡ 0 → first h ≡ (0, 0)) → first (then h (found o n)) ≡ (0, 0)
+one_more_fine h o n e ih =
+    ⊎_elim
+    (λ (q : eqb o 0 ≡ true). cond-false (eqb (unsafe h) 0 && not (eqb o 0)) (standing h) (first h) (and_right (eqb (unsafe h) 0) (not (eqb o 0)) (ap not q)) ∙ ih (omega arith))
+    (λ (q : eqb o 0 ≡ false). absurd (let b : bad o ≡ 1 = cond-false (eqb o 0) 0 1 q in omega arith))
+    (cases_Bool (eqb o 0))
+
+pub names_none : (h : History) → unsafe h ≡ 0 → first h ≡ (0, 0)
+names_none begun e = refl
+names_none (then h (declined call n p)) e = names_none h e
+names_none (then h (starved bytes)) e = names_none h e
+names_none (then h (loaded bytes)) e = names_none h e
+names_none (then h (gave x)) e = names_none h e
+names_none (then h ended) e = names_none h e
+names_none (then h (found o n)) e = one_more_fine h o n e (names_none h)
+names_none (then h forwent) e = names_none h e
+names_none (then h (showed sector size content)) e = names_none h e
+names_none (then h (reported r)) e = names_none h e
 
 -- A HISTORY names such a state.
 names : (s : Subject) (h : History) (v : View) → Reached s h v → forgone s h ≡ 0 → 0 < unsafe h → Named s (recording s h) (first h)

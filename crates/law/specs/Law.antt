@@ -1,10 +1,10 @@
 -- THE LAW of a history and of the base image after it.
-use Rattle.std.specs.Prelude.{◌≡◌, ℕ, ◌+◌, ◌<◌, ◌≤◌, not, ◌⊎◌, ◌↔◌, List, [], ◌∷◌, length, Some, filter, ◌≢◌, slice_index_or}
+use Rattle.std.specs.Prelude.{◌≡◌, ℕ, ◌+◌, ◌<◌, ◌≤◌, not, ◌⊎◌, ◌↔◌, List, [], ◌∷◌, length, Some, filter, ◌==◌, ◌≢◌, slice_index_or}
 use Rattle.std.specs.List.{AllByRecursion}
 use Rattle.image.specs.Sectors.{Sector, Image}
-use Rattle.law.specs.Subject.{Subject, Recording, State, Permitted, Admits, count, image}
+use Rattle.law.specs.Subject.{Subject, Recording, State, Permitted, Admits, takes, count, image}
 use Rattle.law.specs.History.{Call, load, advance, judge, forgo, look, report, Report, Event, declined, starved, loaded, gave, ended, found, forwent, showed, reported, History, begun, then, Empty, Ended, condition, recording, given, standing, judged, unsafe, first, waiting, forgone, skipped, passed}
-use Rattle.law.specs.Rules.{Refusal, none, refusal, verdict_of}
+use Rattle.law.specs.Rules.{Refusal, none, refusal, Late, verdict_of}
 use Rattle.law.specs.Steps.{View, Step, Reached}
 
 -- the history h has the event e, made upon the history k
@@ -46,6 +46,18 @@ Fed forwent = Unit {0}
 Fed (showed sector size content) = Unit {0}
 Fed (reported r) = Unit {0}
 
+-- the rules settle whether the call is declined: memory was wanting at most where they take the recording
+abbrev pub Settled : Subject → Event → Type 0
+Settled s (declined call n p) = Unit {0}
+Settled s (starved bytes) = (R : Recording) × (s.loads bytes ≡ takes R)
+Settled s (loaded bytes) = Unit {0}
+Settled s (gave x) = Unit {0}
+Settled s ended = Unit {0}
+Settled s (found o n) = Unit {0}
+Settled s forwent = Unit {0}
+Settled s (showed sector size content) = Unit {0}
+Settled s (reported r) = Unit {0}
+
 -- no state twice
 abbrev pub Once : List State → Type 0
 Once [] = Unit {0}
@@ -63,6 +75,10 @@ judgement_of s h = (recording s h).judgement (standing h).0 (standing_image s h)
 abbrev pub report_of : Subject → History → Report
 report_of s h = record { verdict = verdict_of (condition h) (unsafe h) (forgone s h); judged = judged h; unsafe = unsafe h; forgone = forgone s h; passed = length (passed s h); first = first h }
 
+-- the states among these whose judgement is another than 0
+abbrev pub unsafe_among : Recording → List State → List State
+unsafe_among R xs = filter (λ x. not ((R.judgement x.0 (image R x)).0 == 0)) xs
+
 -- every permitted state of every crash point recovers to a tree admitted at that point
 abbrev pub AllRecover : Subject → Recording → Type 0
 AllRecover s R = (p : ℕ) → p ≤ R.last → (image : Image) → Permitted s.base R p image → Admits R p (s.outcome image)
@@ -75,9 +91,11 @@ pub record Safe (s : Subject) (h : History) : Type 0 where
 
 pub record Law (s : Subject) (h : History) (base : Image) : Type 0 where
   pub base_kept : base ≡ s.base
-  -- each call was declined exactly where the rules say, by that number and place; memory was wanting to a load of an Empty run only
-  pub declined_exactly : (k : History) (e : Event) → Made h k e → Fed e → declined_by e ≡ refusal s (condition k) (call_of e)
+  -- each call was declined exactly where the rules say, by that number and place; and memory was wanting to a load of an
+  -- Empty run only, of a recording that 3 to 6 do not decline
+  pub declined_exactly : (k : History) (e : Event) → Made h k e → Settled s e → declined_by e ≡ refusal s (condition k) (call_of e)
   pub starved_empty : (k : History) (bytes : List ℕ) → Made h k (starved bytes) → condition k ≡ Empty
+  pub starved_late : (k : History) (bytes : List ℕ) → Made h k (starved bytes) → Late (s.loads bytes)
   pub given_in_order : given h ≡ filter (λ y. not (skipped h y)) (passed s h)
   pub given_once : Once (given h)
   pub looks_show : (k : History) (sector size : ℕ) (content : Sector) → Made h k (showed sector size content) → content ≡ slice_index_or (standing_image s k) sector []
@@ -86,7 +104,7 @@ pub record Law (s : Subject) (h : History) (base : Image) : Type 0 where
   pub reports_figures : (k : History) (r : Report) → Made h k (reported r) → r ≡ report_of s k
   pub safe_exactly : (k : History) (r : Report) → Made h k (reported r) → (r.verdict ≡ 2) ↔ Safe s k
 
--- At whatever point a run is left, its report holds.
+-- Every history by which a run can come about keeps the law, and its base image is the subject's.
 abbrev pub EveryHistoryIsLawful : Type 0
 EveryHistoryIsLawful = (s : Subject) (h : History) (v : View) → Reached s h v → Law s h v.base
 

@@ -3,7 +3,7 @@ use Rattle.std.specs.Prelude.{◌≡◌, ℕ, ◌+◌, cond, not, ◌&&◌, List
 use Rattle.image.specs.Sectors.{Image}
 use Rattle.law.specs.Subject.{Subject, Recording, State, count, image, nothing, meaning}
 use Rattle.law.specs.History.{Call, load, advance, judge, forgo, look, Report, Event, declined, starved, loaded, gave, ended, found, forwent, showed, reported, History, begun, then, Condition, Empty, Ready, Waiting, Judged, Left, Ended, waiting, bad, rest}
-use Rattle.law.specs.Rules.{refusal, none, verdict_of}
+use Rattle.law.specs.Rules.{refusal, none, Late, verdict_of}
 
 -- A run as it is seen from outside.
 pub record View : Type 0 where
@@ -59,7 +59,7 @@ Accepts s v call = refusal s v.condition call ≡ none
 
 abbrev pub Step : Subject → View → Event → View → Type 0
 Step s v (declined call n p) v' = (refusal s v.condition call ≡ Some (n, p)) × (v' ≡ v)
-Step s v (starved bytes) v' = (v.condition ≡ Empty) × (v' ≡ v)
+Step s v (starved bytes) v' = (v.condition ≡ Empty) × Late (s.loads bytes) × (v' ≡ v)
 Step s v (loaded bytes) v' = Accepts s v (load bytes) × (v' ≡ on_load s bytes v)
 Step s v (gave x) v' = Accepts s v advance × (next v.recording v.condition v.standing ≡ Some x) × (v' ≡ on_giving x v)
 Step s v ended v' = Accepts s v advance × (next v.recording v.condition v.standing ≡ None) × (v' ≡ on_end v)

@@ -51,14 +51,14 @@ entries_of bytes count = entries_from (count_in bytes) 1 0 count (drop 512 bytes
 abbrev pub fault_of : List ℕ → (count : ℕ) → Option (ℕ × ℕ)
 fault_of bytes count = of_head (open_fault bytes) (of_entries (entries_of bytes count))
 
--- What is answered: the entries in memory; or the first condition that holds; or that memory is wanting.
+-- What is answered: the entries in memory; or the first condition that holds; or that memory is wanting, behind the head.
 abbrev pub Loaded : List ℕ → (count : ℕ) → Result Trace Refusal → Type 0
 Loaded bytes count (Ok t) = (items : List Item) × (open_fault bytes ≡ None) × (entries_of bytes count ≡ Ok items) × Means t items
 Loaded bytes count (Err (Recording f)) = fault_of bytes count ≡ Some (RC.code_of f)
 Loaded bytes count (Err (NoMark entry)) = fault_of bytes count ≡ Some (10, entry)
 Loaded bytes count (Err (Outside entry)) = fault_of bytes count ≡ Some (9, entry)
 Loaded bytes count (Err (TooMuchData entry)) = fault_of bytes count ≡ Some (11, entry)
-Loaded bytes count (Err Memory) = Unit {0}
+Loaded bytes count (Err Memory) = open_fault bytes ≡ None
 
 -- what is left before a reader, of which `used` data sectors are used
 abbrev pub remaining : Reader → (used count : ℕ) → Result (List Item) (ℕ × ℕ)

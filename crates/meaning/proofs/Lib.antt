@@ -1,0 +1,4 @@
+pub mod Pointing
+pub mod Reading
+pub mod Listing
+pub mod Late

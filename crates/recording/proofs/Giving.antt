@@ -13,7 +13,7 @@ use Rattle.recording.proofs.Sectoring.{SectorReads, sector_reads}
 use Rattle.recording.proofs.Made.{made}
 
 -- the flags of an entry
-flags_for : Item → Flags
+unfoldable pub flags_for : Item → Flags
 flags_for (write sector fl fua meta content) = record { flush = fl; fua = fua; discard = false; mark = false; metadata = meta }
 flags_for (discard sector sectors fl meta) = record { flush = fl; fua = false; discard = true; mark = false; metadata = meta }
 flags_for (flush sector fua dis meta) = record { flush = true; fua = fua; discard = dis; mark = false; metadata = meta }
@@ -129,6 +129,11 @@ pub record EntryReads (e : Item) (r x : List ℕ) : Type 0 where
   pub whole : 512 ≤ length x
   pub formed : malformed x ≡ false
   pub complete : 512 + 512 * data_in x ≤ length x
+  pub sector : sector_in x ≡ sector_of e
+  pub sectors : sectors_in x ≡ sectors_of e
+  pub flags : flags_of (bits_in x) ≡ flags_for e
+  pub text : text_in x ≡ text_of e
+  pub filled : length (data_of e) ≡ 512 * data_in x
   pub item : item_in x ≡ e
   pub rest : drop (512 + 512 * data_in x) x ≡ r
 
@@ -182,6 +187,11 @@ module _ (e : Item) (f : Formed e) (r x : List ℕ) (laid : x ≡ entry_layout e
         whole = omega arith;
         formed = or_from (fields_flawed (sector_in x) (sectors_in x) (bits_in x) (size_in x)) (not (all_zero (between (32 + size_in x) 512 x))) sound (not_from_true (all_zero (between (32 + size_in x) 512 x)) reads.zeros);
         complete = omega (arith, size);
+        sector = reads.sector;
+        sectors = reads.sectors;
+        flags = flags;
+        text = reads.text;
+        filled = size;
         item = same_item;
         rest = sym (drop-drop (512 * data_in x) 512 x) ∙ ap (drop (512 * data_in x)) reads.rest ∙ drop_at (data_of e) r (512 * data_in x) size;
       }

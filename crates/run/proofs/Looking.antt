@@ -1,5 +1,5 @@
 -- A look shows a sector of the standing state, or is declined as the rules say.
-use Rattle.std.proofs.Common.{◌≡◌, ℕ, cond, ltb, length, Ok, Err, Result, refl, ap, ◌∙◌, arith}
+use Rattle.std.proofs.Common.{◌≡◌, ℕ, cond, ltb, length, Ok, Err, IfErr, Result, refl, ap, ◌∙◌, arith}
 use Rattle.std.proofs.lemmas.Bool.{eq-eqb, ne_eqb, le-ltb}
 use Rattle.image.specs.Sectors.{Image}
 use Rattle.image.specs.declared.refusal.Refusal.TheVariants.{BufferLength, SectorNumber}
@@ -21,6 +21,7 @@ use Rattle.run.specs.declared.call.Answer.{Answer}
 use Rattle.run.specs.declared.call.Answer.TheVariants.{Loaded, Next, Found, Forgone, Shown, Reported}
 use Rattle.run.specs.Events.{event_of}
 use Rattle.run.specs.Looks.{Viewed}
+use Rattle.run.specs.Faults.{Blames}
 use Rattle.run.specs.Moves.{WaitingIn}
 use Rattle.run.specs.Valid.{Valid, view_by}
 use Rattle.run.proofs.Stepping.{shows}
@@ -52,16 +53,29 @@ look_fits state sector size (Ok Forgone) v = absurd v
 look_fits state sector size (Ok (Shown content)) v = refl
 look_fits state sector size (Ok (Reported r)) v = absurd v
 
+pub look_blames : (o : Outcome) (state : Image) (sector size : ℕ) (r : Result Answer RunRefusal) → Viewed state sector size r → IfErr r (Blames o)
+look_blames o state sector size (Err (Store f)) v = tt
+look_blames o state sector size (Err TooFewSectors) v = absurd v
+look_blames o state sector size (Err (BaseFault fault)) v = absurd v
+look_blames o state sector size (Err (Recording f)) v = absurd v
+look_blames o state sector size (Err NothingLoaded) v = absurd v
+look_blames o state sector size (Err AlreadyLoaded) v = absurd v
+look_blames o state sector size (Err NoState) v = absurd v
+look_blames o state sector size (Err NotJudged) v = absurd v
+look_blames o state sector size (Err AlreadyJudged) v = absurd v
+look_blames o state sector size (Err HasEnded) v = absurd v
+look_blames o state sector size (Ok answer) v = tt
+
 module _ (least : ℕ) (outcome : Image → Outcome) (base state : Image) (space : Space) (p : Progress) (V : Valid outcome base state space p) (w : ℕ) (h : WaitingIn p.condition w) (l : length state ≡ length base) (sector size : ℕ) where
   abbrev s : Subject
   s = subject_of least outcome base
 
-  declined_by : (n : ℕ) → of_sector (length base) sector size ≡ by n → Step s (view_by outcome base space p) (H.declined (H.look sector size) n 0) (view_by outcome base space p)
-  declined_by n e = (standing_refusal p.condition w h (of_sector (length base) sector size) ∙ e, refl)
+  look_declined : (n : ℕ) → of_sector (length base) sector size ≡ by n → Step s (view_by outcome base space p) (H.declined (H.look sector size) n 0) (view_by outcome base space p)
+  look_declined n e = (standing_refusal p.condition w h (of_sector (length base) sector size) ∙ e, refl)
 
   pub looks : (r : Result Answer RunRefusal) → Viewed state sector size r → Step s (view_by outcome base space p) (event_of (H.look sector size) r) (view_by outcome base space p)
-  looks (Err (Store BufferLength)) v = declined_by 1 (ap (λ b. cond b (cond (ltb sector (length base)) none (by 2)) (by 1)) (ne_eqb size 512 v))
-  looks (Err (Store SectorNumber)) v = declined_by 2 (ap (λ b. cond b (cond (ltb sector (length base)) none (by 2)) (by 1)) (eq-eqb size 512 v.0) ∙ ap (λ b. cond b none (by 2)) (le-ltb sector (length base) (let m = v.1 in omega arith)))
+  looks (Err (Store BufferLength)) v = look_declined 1 (ap (λ b. cond b (cond (ltb sector (length base)) none (by 2)) (by 1)) (ne_eqb size 512 v))
+  looks (Err (Store SectorNumber)) v = look_declined 2 (ap (λ b. cond b (cond (ltb sector (length base)) none (by 2)) (by 1)) (eq-eqb size 512 v.0) ∙ ap (λ b. cond b none (by 2)) (le-ltb sector (length base) (let m = v.1 in omega arith)))
   looks (Err TooFewSectors) v = absurd v
   looks (Err (BaseFault fault)) v = absurd v
   looks (Err (Recording f)) v = absurd v

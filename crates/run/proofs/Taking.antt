@@ -15,6 +15,7 @@ use Rattle.law.specs.Rules.{refusal, of_recording}
 use Rattle.law.specs.Steps.{View, Step}
 use Rattle.meaning.specs.Loads.{load_of, by_base}
 use Rattle.meaning.specs.Subjects.{subject_of}
+use Rattle.meaning.proofs.Late.{late}
 use Rattle.progress.specs.declared.condition.Condition.TheVariants.{Empty}
 use Rattle.progress.specs.declared.condition.Progress.{Progress}
 use Rattle.progress.specs.Moves.{loaded}
@@ -22,7 +23,7 @@ use Rattle.progress.specs.Views.{condition_of, first_of}
 use Rattle.progress.specs.Bounds.{loaded_bounded}
 use Rattle.taking.specs.Taking.{Taken, Declined}
 use Rattle.run.specs.declared.space.Space.{Space}
-use Rattle.run.specs.Events.{declined_by}
+use Rattle.run.specs.Events.{declining}
 use Rattle.run.specs.Valid.{meaning_in, Valid, view_by}
 use Rattle.run.proofs.Stepping.{stage_at}
 
@@ -56,9 +57,9 @@ module _ (least : ℕ) (outcome : Image → Outcome) (base state : Image) (space
   pub fault_step : least ≤ length base → (fault : Fault) → outcome base ≡ a_fault fault → Step s (view_by outcome base space p) (H.declined (H.load bytes) 4 0) (view_by outcome base space p)
   fault_step l fault h = declines_step 4 0 (enough l (a_fault fault) h)
 
-  pub code_step : least ≤ length base → (nodes : List Node) → outcome base ≡ a_tree nodes → (code : Option (ℕ × ℕ)) → Declined bytes base code → Step s (view_by outcome base space p) (declined_by (H.load bytes) code) (view_by outcome base space p)
+  pub code_step : least ≤ length base → (nodes : List Node) → outcome base ≡ a_tree nodes → (code : Option (ℕ × ℕ)) → Declined bytes base code → Step s (view_by outcome base space p) (declining (H.load bytes) code) (view_by outcome base space p)
   code_step l nodes h (Some c) d = declines_step c.0 c.1 (enough l (a_tree nodes) h ∙ d outcome nodes)
-  code_step l nodes h None d = (ap condition_of e, refl)
+  code_step l nodes h None d = (ap condition_of e, late outcome base nodes least bytes (le-ltb (length base) least l) h d, refl)
 
   pub takes_step : least ≤ length base → (t : Trace) (tree : Tree) → outcome base ≡ a_tree tree.nodes → Taken bytes base (Ok t) → (n : ℕ) → n ≡ length (vec_items t.steps) →
       Valid outcome base state (with_recording space t tree) (loaded n p) × Step s (view_by outcome base space p) (H.loaded bytes) (view_by outcome base (with_recording space t tree) (loaded n p))

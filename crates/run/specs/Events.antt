@@ -21,14 +21,14 @@ call_seen (Look sector size) = H.look sector size
 call_seen Report = H.report
 
 -- a call declined by number and place, or for want of memory
-abbrev pub declined_by : H.Call → Option (ℕ × ℕ) → H.Event
-declined_by call (Some c) = H.declined call c.0 c.1
-declined_by (H.load bytes) None = H.starved bytes
-declined_by H.advance None = H.declined H.advance 0 0
-declined_by H.judge None = H.declined H.judge 0 0
-declined_by H.forgo None = H.declined H.forgo 0 0
-declined_by (H.look sector size) None = H.declined (H.look sector size) 0 0
-declined_by H.report None = H.declined H.report 0 0
+abbrev pub declining : H.Call → Option (ℕ × ℕ) → H.Event
+declining call (Some c) = H.declined call c.0 c.1
+declining (H.load bytes) None = H.starved bytes
+declining H.advance None = H.declined H.advance 0 0
+declining H.judge None = H.declined H.judge 0 0
+declining H.forgo None = H.declined H.forgo 0 0
+declining (H.look sector size) None = H.declined (H.look sector size) 0 0
+declining H.report None = H.declined H.report 0 0
 
 abbrev bytes_of : H.Call → List ℕ
 bytes_of (H.load bytes) = bytes
@@ -75,4 +75,4 @@ answer_of call (Reported r) = H.reported (report_seen r)
 -- the call with its answer
 abbrev pub event_of : H.Call → Result Answer Refusal → H.Event
 event_of call (Ok answer) = answer_of call answer
-event_of call (Err f) = declined_by call (code_of f)
+event_of call (Err f) = declining call (code_of f)

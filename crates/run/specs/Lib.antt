@@ -7,4 +7,5 @@ pub mod Seen
 pub mod Moves
 pub mod Loads
 pub mod Looks
+pub mod Faults
 pub mod Typed

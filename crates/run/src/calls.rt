@@ -1,5 +1,5 @@
 //! The calls of a run.
-ghost use Rattle.std.specs.Prelude.{◌≡◌, false, length, is_ok};
+ghost use Rattle.std.specs.Prelude.{◌≡◌, false, length, is_ok, IfErr};
 ghost use Rattle.law.specs.Subject.{Subject};
 ghost use Rattle.law.specs.History.{History, begun as nothingCalled, then, reported};
 ghost use Rattle.law.specs.Law.{call_of, Law};
@@ -8,6 +8,7 @@ ghost use Rattle.meaning.specs.Subjects.{subject_of};
 ghost use Rattle.progress.specs.Reports.{report_seen};
 ghost use Rattle.run.specs.Seen.{Goes, Kept, Led, Went, base_of, view};
 ghost use Rattle.run.specs.Events.{call_seen, event_of};
+ghost use Rattle.run.specs.Faults.{Blames};
 ghost use Rattle.run.specs.Typed.{advancing, judging as found_by, forgoing, loading, looking};
 
 use crate::call::{Answer, Call};
@@ -46,21 +47,24 @@ impl<S: ImageStore, F: FileSystem> Run<S, F> {
     }
 
     /// Makes any call. The store and the file system stay; the answer is one to this call and a
-    /// step of the law; and whatever history led here, it goes on by this call and its answer.
+    /// step of the law; and whatever history led here, it goes on by this call and its answer. A
+    /// fault that is named is the one that recovery finds in the base.
     pub fn call(&mut self, call: Call) -> Result<Answer, Refusal>
         ensures kept { Kept self.old self.new }
         ensures fits { call_of (event_of (call_seen call.entry) result) ≡ call_seen call.entry }
         ensures goes { Goes self.old (event_of (call_seen call.entry) result) self.new }
         ensures went { Went self.old (event_of (call_seen call.entry) result) self.new }
+        ensures fault { IfErr result (Blames (F.FileSystem.outcome self.old.fs (base_of self.old))) }
     {
         self.turn(call)
     }
 
-    /// Loads a recording into an Empty run.
+    /// Loads a recording into an Empty run. A fault that is named is the one that recovery finds in the base.
     pub fn load(&mut self, recording: &[u8]) -> Result<(), Refusal>
         ensures kept { Kept self.old self.new }
         ensures goes { Goes self.old (loading recording.now result) self.new }
         ensures went { Went self.old (loading recording.now result) self.new }
+        ensures fault { IfErr result (Blames (F.FileSystem.outcome self.old.fs (base_of self.old))) }
     {
         match self.turn(Call::Load(recording))? {
             Answer::Loaded => Ok(()),

@@ -1,10 +1,11 @@
 //! How a run takes up a recording.
-ghost use Rattle.std.specs.Prelude.{◌≡◌, ℕ, false};
+ghost use Rattle.std.specs.Prelude.{◌≡◌, ℕ, false, IfErr};
 ghost use Rattle.image.specs.Shown.{shown, holds};
 ghost use Rattle.law.specs.History.{load};
 ghost use Rattle.law.specs.Law.{call_of};
 ghost use Rattle.progress.specs.declared.condition.Condition.TheVariants.{Empty};
-ghost use Rattle.run.specs.Seen.{Goes, Kept};
+ghost use Rattle.run.specs.Seen.{Goes, Kept, base_of};
+ghost use Rattle.run.specs.Faults.{Blames};
 ghost use Rattle.run.specs.Events.{event_of};
 ghost use Rattle.run.specs.Loads.{Recovered};
 
@@ -38,6 +39,7 @@ impl<S: ImageStore, F: FileSystem> Run<S, F> {
         ensures kept { Kept self.old self.new }
         ensures fits { call_of (event_of (load recording.now) result) ≡ load recording.now }
         ensures goes { Goes self.old (event_of (load recording.now) result) self.new }
+        ensures fault { IfErr result (Blames (F.FileSystem.outcome self.old.fs (base_of self.old))) }
     {
         if self.layers.count() < F::LEAST {
             return Err(Refusal::TooFewSectors);

@@ -1,8 +1,9 @@
 //! The one place where a call meets the condition of a run.
-ghost use Rattle.std.specs.Prelude.{◌≡◌};
+ghost use Rattle.std.specs.Prelude.{◌≡◌, IfErr};
 ghost use Rattle.image.specs.Shown.{shown};
 ghost use Rattle.law.specs.Law.{call_of};
-ghost use Rattle.run.specs.Seen.{Goes, Kept};
+ghost use Rattle.run.specs.Seen.{Goes, Kept, base_of};
+ghost use Rattle.run.specs.Faults.{Blames};
 ghost use Rattle.run.specs.Events.{call_seen, event_of};
 ghost use Rattle.run.specs.Looks.{Viewed};
 
@@ -33,6 +34,7 @@ impl<S: ImageStore, F: FileSystem> Run<S, F> {
         ensures kept { Kept self.old self.new }
         ensures fits { call_of (event_of (call_seen call.entry) result) ≡ call_seen call.entry }
         ensures goes { Goes self.old (event_of (call_seen call.entry) result) self.new }
+        ensures fault { IfErr result (Blames (F.FileSystem.outcome self.old.fs (base_of self.old))) }
     {
         match (self.progress.condition, call) {
             (_, Call::Report) => Ok(Answer::Reported(self.progress.report())),

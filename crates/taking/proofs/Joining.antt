@@ -43,7 +43,7 @@ reading_declined bytes base (Recording f) h = λ outcome nodes. by_head_lem outc
 reading_declined bytes base (NoMark k) h = λ outcome nodes. by_head_lem outcome base nodes bytes (10, k) (open_fault bytes) h
 reading_declined bytes base (Outside k) h = λ outcome nodes. by_head_lem outcome base nodes bytes (9, k) (open_fault bytes) h
 reading_declined bytes base (TooMuchData k) h = λ outcome nodes. by_head_lem outcome base nodes bytes (11, k) (open_fault bytes) h
-reading_declined bytes base Memory h = tt
+reading_declined bytes base Memory h = h
 
 -- READ: what is left are the points.
 module _ (bytes : List ℕ) (base : Image) (t : Trace) (read : Loaded bytes (length base) (Ok t)) where

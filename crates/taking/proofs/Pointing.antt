@@ -1,40 +1,22 @@
 -- The first point that is declined: what the check of the points answers is what the tests say.
-use Rattle.std.proofs.Common.{◌≡◌, ℕ, zero, suc, ◌+◌, ◌<◌, ◌≤◌, Bool, true, false, cond, ltb, ◌⊎◌, List, map, length, get_or, Some, None, Ok, Err, Decides, Option, Result, refl, ap, ◌∙◌, inl, inr, arith}
+use Rattle.std.proofs.Common.{◌≡◌, ℕ, ◌+◌, ◌<◌, Bool, true, false, cond, ltb, List, map, length, get_or, Some, None, Ok, Err, Option, Result, refl, ap, ◌∙◌, inl, inr, arith}
 use Rattle.std.specs.List.{range_with_len}
 use Rattle.std.proofs.lemmas.List.{length-map}
-use Rattle.std.proofs.lemmas.Bool.{cases_Bool, cases_eq, lt-ltb, le-ltb}
-use Rattle.std.proofs.lemmas.Bool.Decides.{Decides-or, Decides-ltb}
+use Rattle.std.proofs.lemmas.Bool.{cases_Bool, lt-ltb, le-ltb}
 use Rattle.image.specs.Sectors.{Image}
 use Rattle.tree.specs.declared.node.Node.{Node}
 use Rattle.tree.specs.declared.node.Node.TheVariants.{Absent}
 use Rattle.recording.specs.Items.{Item}
 use Rattle.crash.specs.Effects.{effect_of}
 use Rattle.crash.specs.Rules.{Recording}
-use Rattle.crash.specs.States.{some_below, numbers, states}
-use Rattle.crash.proofs.Deciding.{some_decides}
+use Rattle.crash.specs.States.{states}
 use Rattle.meaning.specs.Meanings.{writes_of, values_of, marks_of}
-use Rattle.meaning.specs.Loads.{crowded, point_fault, or_else, first_fault}
+use Rattle.meaning.specs.Loads.{crowded, point_fault, first_fault}
+use Rattle.meaning.proofs.Pointing.{first_none, first_some, Full, crowded_decides}
 use Rattle.candidates.specs.declared.refusal.Refusal.{Refusal}
 use Rattle.candidates.specs.declared.refusal.Refusal.TheVariants.{SectorNumber, Candidates, States}
 use Rattle.candidates.specs.Refusals.{code_of}
 use Rattle.points.specs.Counting.{Crowded, Uncrowded, Fine, Checked}
-
--- THE FIRST of the points from a on.
-module _ (fault : ℕ → Option (ℕ × ℕ)) where
-  pub first_none : (a n : ℕ) → ((p : ℕ) → a ≤ p → p < a + n → fault p ≡ None) → first_fault fault (range_with_len a n) ≡ None
-  first_none a zero h = refl
-  first_none a (suc n) h =
-      ap (λ o. or_else o (first_fault fault (range_with_len (a + 1) n))) (h a (omega arith) (omega arith))
-      ∙ first_none (a + 1) n (λ p l b. h p (omega arith) (omega arith))
-
-  pub first_some : (a n q : ℕ) (r : ℕ × ℕ) → a ≤ q → q < a + n → ((p : ℕ) → a ≤ p → p < q → fault p ≡ None) → fault q ≡ Some r → first_fault fault (range_with_len a n) ≡ Some r
-  first_some a zero q r l b h e = absurd (omega arith)
-  first_some a (suc n) q r l b h e = elim (cases_eq a q) [
-    | inl s ↦ ap (λ o. or_else o (first_fault fault (range_with_len (a + 1) n))) (ap fault s ∙ e)
-    | inr s ↦
-        ap (λ o. or_else o (first_fault fault (range_with_len (a + 1) n))) (h a (omega arith) (omega arith))
-        ∙ first_some (a + 1) n q r (omega arith) (omega arith) (λ p i j. h p (omega arith) j) e
-  ]
 
 -- why the points are declined, by what their check answers
 abbrev pub reason : Result (Unit {0}) Refusal → Option (ℕ × ℕ)
@@ -45,30 +27,21 @@ module _ (base : Image) (nodes : List Node) (items : List Item) where
   abbrev d : Recording
   d = writes_of base items
 
-  -- ONE POINT. The test says that a sector or a node is crowded.
-  abbrev Full : ℕ → Type 0
-  Full p = ((s : ℕ) × (s < length base) × (8 < length (numbers d p s))) ⊎ ((n : ℕ) × (n < 16) × (8 < length (values_of nodes items p n)))
-
-  crowded_decides : (p : ℕ) → Decides (crowded base nodes items p) (Full p)
-  crowded_decides p =
-      Decides-or (some_below (λ s. ltb 8 (length (numbers d p s))) (length base)) (some_below (λ n. ltb 8 (length (values_of nodes items p n))) 16)
-      (some_decides (λ s. ltb 8 (length (numbers d p s))) (λ s. 8 < length (numbers d p s)) (λ s. Decides-ltb 8 (length (numbers d p s))) (length base))
-      (some_decides (λ n. ltb 8 (length (values_of nodes items p n))) (λ n. 8 < length (values_of nodes items p n)) (λ n. Decides-ltb 8 (length (values_of nodes items p n))) 16)
-
-  full : (p : ℕ) → Crowded d (marks_of items) p → Full p
+  -- ONE POINT.
+  full : (p : ℕ) → Crowded d (marks_of items) p → Full base nodes items p
   full p (inl s) = inl s
   full p (inr n) = inr (n.0, n.1, n.2 (get_or nodes n.0 Absent))
 
-  not_full : (p : ℕ) → Uncrowded d (marks_of items) p → Full p → ⊥
+  not_full : (p : ℕ) → Uncrowded d (marks_of items) p → Full base nodes items p → ⊥
   not_full p u (inl s) = let a = u.0 s.0 s.1 in let b = s.2 in omega arith
   not_full p u (inr n) = let a = u.1 n.0 n.1 (get_or nodes n.0 Absent) in let b = n.2 in omega arith
 
   is_crowded : (p : ℕ) → Crowded d (marks_of items) p → crowded base nodes items p ≡ true
-  is_crowded p c = (crowded_decides p).1 (full p c)
+  is_crowded p c = (crowded_decides base nodes items p).1 (full p c)
 
   is_uncrowded : (p : ℕ) → Uncrowded d (marks_of items) p → crowded base nodes items p ≡ false
   is_uncrowded p u = elim (cases_Bool (crowded base nodes items p)) [
-    | inl t ↦ absurd (not_full p u ((crowded_decides p).0 t))
+    | inl t ↦ absurd (not_full p u ((crowded_decides base nodes items p).0 t))
     | inr f ↦ f
   ]
 

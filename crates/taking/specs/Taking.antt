@@ -28,10 +28,10 @@ pub record Fit (base : Image) (t : Trace) : Type 0 where
   pub marks : length (marks_of t) ≡ length (effects_of t)
   pub whole : Whole (effects_of t)
 
--- the bytes are declined by this number and place; nothing is said of want of memory
+-- the bytes are declined by this number and place; memory is wanting only behind the head
 abbrev pub Declined : List ℕ → (base : Image) → Option (ℕ × ℕ) → Type 0
 Declined bytes base (Some c) = (outcome : Image → Outcome) (nodes : List Node) → by_head outcome base nodes bytes (open_fault bytes) ≡ declines c.0 c.1
-Declined bytes base None = Unit {0}
+Declined bytes base None = open_fault bytes ≡ None
 
 -- What is answered, whatever recovery makes of images and whatever tree the base recovers to: the recording's meaning in
 -- memory, or the first condition by which it is declined.

@@ -11,7 +11,7 @@ use Rattle.progress.specs.Moves.{loaded}
 use Rattle.progress.specs.declared.condition.Condition.TheVariants.{Empty}
 use Rattle.taking.specs.Taking as T
 use Rattle.run.specs.declared.run.Run.{Run}
-use Rattle.run.specs.Events.{declined_by}
+use Rattle.run.specs.Events.{declining}
 use Rattle.run.specs.Seen.{base_of, subject, view}
 use Rattle.run.proofs.Clean.{shown_clean, length_pile}
 use Rattle.run.proofs.Carrying.{carry_valid, carry_step}
@@ -43,6 +43,14 @@ returns-in_err-tree-clause-goes g c =
     let q = err_from_is_err_and c.from_residual.result c.from_residual.ensures.1 in
     rw (q.1, q.2) (carry_step sectors outcome run.space c.recovered_tree.ensures.below (refl {a = run.progress}) (subject run) (view run) (H.declined (H.load c.args.recording.now) 4 0) (fault_step least outcome (base_of run) (shown sectors run.layers.below) run.space run.progress run.valid c.requires c.args.recording.now enough c.in_err-tree.field-0.0 told))
 
+pub returns-in_err-tree-clause-fault : goal.returns-in_err-tree-clause-fault
+returns-in_err-tree-clause-fault g c =
+    let run = c.args.self.now in
+    let outcome = g.F.FileSystem.outcome run.fs in
+    let told : outcome (base_of run) ≡ a_fault c.in_err-tree.field-0.0 = ap outcome (sym (pile_is run c.requires)) ∙ c.in_err-tree.ensures.told in
+    let q = err_from_is_err_and c.from_residual.result c.from_residual.ensures.1 in
+    rw (q.1, q.2) told
+
 pub returns-in_err-trace-clause-goes : goal.returns-in_err-trace-clause-goes
 returns-in_err-trace-clause-goes g c =
     let run = c.args.self.now in
@@ -55,7 +63,7 @@ returns-in_err-trace-clause-goes g c =
     let P : Overlay g.row.S.Denot → Type 0 = λ x. T.Declined c.args.recording.now (sectors x.below) code in
     let refused : T.Declined c.args.recording.now (base_of run) code = subst P c.recovered_tree.ensures.below c.in_err-trace.ensures in
     let q = err_from_is_err_and c.from_residual-in_err-trace.result c.from_residual-in_err-trace.ensures.1 in
-    rw (q.1, q.2) (carry_step sectors outcome run.space c.recovered_tree.ensures.below (refl {a = run.progress}) (subject run) (view run) (declined_by (H.load c.args.recording.now) code) (code_step least outcome (base_of run) (shown sectors run.layers.below) run.space run.progress run.valid c.requires c.args.recording.now enough c.in_ok-tree.tree.nodes told code refused))
+    rw (q.1, q.2) (carry_step sectors outcome run.space c.recovered_tree.ensures.below (refl {a = run.progress}) (subject run) (view run) (declining (H.load c.args.recording.now) code) (code_step least outcome (base_of run) (shown sectors run.layers.below) run.space run.progress run.valid c.requires c.args.recording.now enough c.in_ok-tree.tree.nodes told code refused))
 
 pub invariant_of-self-2 : goal.invariant_of-self-2
 invariant_of-self-2 g c =
