@@ -9,3 +9,4 @@ pub mod Repeating
 pub mod Stating
 pub mod Effecting
 pub mod Noding
+pub mod Wording

@@ -1,5 +1,5 @@
 -- The numbers and the candidates of a sector are those of the rules.
-use Rattle.std.proofs.Common.{◌≡◌, ℕ, zero, suc, ◌+◌, ◌<◌, ◌≤◌, true, false, not, ◌&&◌, eqb, ltb, leb, ◌⊎◌, List, map, length, Decides, refl, subst, inl, inr, zero-le, arith}
+use Rattle.std.proofs.Common.{◌≡◌, ℕ, zero, suc, ◌+◌, ◌<◌, ◌≤◌, true, false, not, ◌&&◌, eqb, ltb, leb, ◌⊎◌, List, [], ◌∷◌, map, length, get_or, Decides, refl, subst, inl, inr, zero-le, arith}
 use Rattle.std.specs.List.{range_with_len}
 use Rattle.std.proofs.lemmas.Bool.{cases_Bool, cases_eq, both_ways}
 use Rattle.std.proofs.lemmas.Bool.Decides.{Decides-eqb, Decides-ltb, Decides-and, Decides-or, Decides-not, Decides-like}
@@ -7,11 +7,11 @@ use Rattle.image.specs.Sectors.{Sector}
 use Rattle.crash.specs.Effects.{Effect}
 use Rattle.crash.specs.Rules.{Recording, effect_at, Writes, Durable, StruckOut, HasNumber, Stands, Candidate, written}
 use Rattle.crash.specs.Lists.{◌∈◌, Once, InOrder, Ascending}
-use Rattle.crash.specs.States.{is_writer, is_durable, is_struck_out, is_number, is_standing, numbers, candidates}
+use Rattle.crash.specs.States.{is_writer, is_durable, is_struck_out, is_number, is_standing, numbers, candidates, candidate_numbers}
 use Rattle.crash.specs.Laws.{Sooner}
 use Rattle.crash.proofs.Deciding.{decides_leb, some_decides}
 use Rattle.crash.proofs.Durability.{durable_decides, durable_upto}
-use Rattle.crash.proofs.Members.{in_kept, kept_in, counting_in, in_map, map_in, in_distinct, distinct_in, once_distinct, ascending_counting, in_order_kept, in_order_weaker, SoonerOf, distinct_order, place_of}
+use Rattle.crash.proofs.Members.{in_kept, kept_in, counting_in, in_map, map_in, in_distinct, distinct_in, once_distinct, ascending_counting, in_order_kept, in_order_weaker, SoonerOf, distinct_order, in_firsts, firsts_in, ascending_firsts, place_of}
 
 -- a list in which something stands
 pub some_in : {X : Type 0} (x : X) (xs : List X) → x ∈ xs → 0 < length xs
@@ -128,3 +128,22 @@ module _ (d : Recording) where
   candidates_some p s =
       let n = (newest p s).0 in
       some_in (written d s n) (candidates d p s) (candidates_in p s (written d s n) (n, newest_stands p s, refl))
+
+  pub candidates_at_0 : (s : ℕ) → candidates d 0 s ≡ get_or d.base s [] ∷ []
+  unfolding candidates numbers
+  candidates_at_0 s = refl
+
+  pub in_candidate_numbers : (p s j : ℕ) → j ∈ candidate_numbers d p s → Stands d p s j × ((k : ℕ) → Stands d p s k → written d s k ≡ written d s j → j ≤ k)
+  unfolding candidate_numbers
+  in_candidate_numbers p s j h =
+      let q = in_firsts (written d s) (numbers d p s) (numbers_ascending p s) j h in
+      (in_numbers p s j q.0, λ k n e. q.1 k (numbers_in p s k n) e)
+
+  pub candidate_numbers_in : (p s j : ℕ) → Stands d p s j → ((k : ℕ) → Stands d p s k → written d s k ≡ written d s j → j ≤ k) → j ∈ candidate_numbers d p s
+  unfolding candidate_numbers
+  candidate_numbers_in p s j h f =
+      firsts_in (written d s) (numbers d p s) (numbers_ascending p s) j (numbers_in p s j h) (λ k m e. f k (in_numbers p s k m) e)
+
+  pub candidate_numbers_ascending : (p s : ℕ) → Ascending (candidate_numbers d p s)
+  unfolding candidate_numbers
+  candidate_numbers_ascending p s = ascending_firsts (written d s) (numbers d p s) (numbers_ascending p s)

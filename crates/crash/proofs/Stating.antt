@@ -8,7 +8,7 @@ use Rattle.crash.specs.Lists.{◌∈◌, Once, InOrder, Ascending}
 use Rattle.crash.specs.States.{candidates, columns, states, State, ranked, points, list}
 use Rattle.crash.specs.Ranks.{product, Within, pick, Before, places_of}
 use Rattle.crash.specs.Laws.{counts, Earlier}
-use Rattle.crash.proofs.Members.{all_in, all_from_in, in_joined, joined_in, in_counting, counting_in, ascending_counting, in_order_append}
+use Rattle.crash.proofs.Members.{all_in, all_from_in, in_joined, joined_in, in_counting, counting_in, ascending_counting, in_order_append, in_order_once}
 use Rattle.crash.proofs.Numbering.{in_candidates, candidates_in, candidates_once, candidates_some}
 use Rattle.crash.proofs.Choosing.{in_choices, choices_in, once_choices, length_choices, get_d_choices, takes_long, takes_at, takes_from}
 use Rattle.crash.proofs.Ranking.{product_pos, places_within, rank_places, before_rank}
@@ -157,3 +157,11 @@ module _ (d : Recording) where
   pub list_order : InOrder Earlier (list d)
   unfolding list at
   list_order = points_order (points d) points_ascending
+
+  -- no state stands before itself
+  not_earlier : (x : State) → Earlier x x → ⊥
+  not_earlier x (inl l) = omega arith
+  not_earlier x (inr h) = let l = h.1 in omega arith
+
+  pub list_once : Once (list d)
+  list_once = in_order_once Earlier not_earlier (list d) list_order

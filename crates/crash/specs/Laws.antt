@@ -1,10 +1,10 @@
 -- What is proved of the definitions.
-use Rattle.std.specs.Prelude.{◌≡◌, ℕ, suc, ◌+◌, ◌<◌, ◌≤◌, false, ◌⊎◌, ◌↔◌, List, [], map, length, Some, None, Decides, slice_index_or}
+use Rattle.std.specs.Prelude.{◌≡◌, ℕ, suc, ◌+◌, ◌<◌, ◌≤◌, false, ◌⊎◌, ◌↔◌, List, [], ◌∷◌, map, length, Some, None, Decides, slice_index_or}
 use Rattle.image.specs.Sectors.{Sector, Image}
 use Rattle.crash.specs.Rules.{Recording, effect_at, HasFlush, HasFua, Durable, Stands, Candidate, Permitted, written}
 use Rattle.crash.specs.Lists.{◌∈◌, Once, InOrder, Ascending, distinct}
 use Rattle.crash.specs.States.{is_durable, numbers, candidates, candidate_numbers, columns, states, State, points, list}
-use Rattle.crash.specs.Ranks.{product, Within, pick, Before, places_of, next}
+use Rattle.crash.specs.Ranks.{product, Within, pick, Before, rank_of, places_of, next}
 use Rattle.crash.specs.Walk.{walk}
 
 -- What the rest uses of when a write is durable.
@@ -41,6 +41,8 @@ pub record CandidatesAreTheRules : Type 0 where
   pub once : (d : Recording) (p s : ℕ) → Once (candidates d p s)
   pub order : (d : Recording) (p s : ℕ) → InOrder (Sooner d p s) (candidates d p s)
   pub some : (d : Recording) (p s : ℕ) → 0 < length (candidates d p s)
+  -- before the first entry a sector has its base content alone
+  pub at_0 : (d : Recording) (s : ℕ) → candidates d 0 s ≡ slice_index_or d.base s [] ∷ []
 
 -- how many candidates each sector has
 abbrev pub counts : Recording → ℕ → List ℕ
@@ -58,6 +60,8 @@ pub record RanksAreLexicographic : Type 0 where
   pub image : (d : Recording) (p r : ℕ) → r < length (states d p) → slice_index_or (states d p) r [] ≡ pick [] (columns d p) (places_of (counts d p) r)
   pub within : (d : Recording) (p r : ℕ) → r < length (states d p) → Within (counts d p) (places_of (counts d p) r)
   pub order : (d : Recording) (p r t : ℕ) → r < t → t < length (states d p) → Before (places_of (counts d p) r) (places_of (counts d p) t)
+  -- the rank of these places
+  pub rank : (d : Recording) (p r : ℕ) → r < length (states d p) → rank_of (counts d p) (places_of (counts d p) r) ≡ r
   -- from one rank to the next
   pub first : (d : Recording) (p : ℕ) → places_of (counts d p) 0 ≡ map (λ _. 0) (counts d p)
   pub more : (d : Recording) (p r : ℕ) → r + 1 < length (states d p) → next (counts d p) (places_of (counts d p) r) ≡ Some (places_of (counts d p) (r + 1))
@@ -67,12 +71,13 @@ pub record RanksAreLexicographic : Type 0 where
 abbrev pub Earlier : State → State → Type 0
 Earlier x y = (x.point < y.point) ⊎ ((x.point ≡ y.point) × (x.rank < y.rank))
 
--- The points are 0 to n, in order, and the list has every state of every point, in order.
+-- The points are 0 to n, in order, and the list has every state of every point, once and in order.
 pub record ListIsTheStates : Type 0 where
   pub upto : (d : Recording) (p : ℕ) → (p ∈ points d) ↔ (p ≤ length d.effects)
   pub ascending : (d : Recording) → Ascending (points d)
   pub members : (d : Recording) (x : State) → (x ∈ list d) ↔ ((x.point ≤ length d.effects) × (x.rank < length (states d x.point)) × (x.image ≡ slice_index_or (states d x.point) x.rank []))
   pub order : (d : Recording) → InOrder Earlier (list d)
+  pub once : (d : Recording) → Once (list d)
 
 -- A sector's history over the entries up to p holds the numbers that stand, in order, or with each number its content; the
 -- candidates are these contents with equal ones left out, and the numbers of the candidates are left of the numbers likewise.
@@ -81,3 +86,7 @@ pub record HistoryGivesTheCandidates : Type 0 where
   pub contents : (d : Recording) (p s : ℕ) → walk d s (written d s) p ≡ map (written d s) (numbers d p s)
   pub unrepeated : (d : Recording) (p s : ℕ) → candidates d p s ≡ distinct (walk d s (written d s) p)
   pub numbered : (d : Recording) (p s : ℕ) → candidates d p s ≡ map (written d s) (candidate_numbers d p s)
+  -- of the numbers that stand with one content the lowest is a candidate's, and they are in order
+  pub lowest : (d : Recording) (p s j : ℕ) →
+      (j ∈ candidate_numbers d p s) ↔ (Stands d p s j × ((k : ℕ) → Stands d p s k → written d s k ≡ written d s j → j ≤ k))
+  pub climbing : (d : Recording) (p s : ℕ) → Ascending (candidate_numbers d p s)

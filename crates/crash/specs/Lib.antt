@@ -5,7 +5,9 @@ pub mod States
 pub mod Ranks
 pub mod Walk
 pub mod Nodes
+pub mod WordLaws
 pub mod EffectLaws
 pub mod Laws
 pub mod NodeLaws
 pub mod Examples
+pub mod NodeExamples

@@ -5,15 +5,22 @@
 ghost use Rattle.crash.specs.Laws.{DurableLaws, NumbersAreTheRules, CandidatesAreTheRules, StatesArePermitted, RanksAreLexicographic, ListIsTheStates, HistoryGivesTheCandidates};
 ghost use Rattle.crash.specs.NodeLaws.{NodesAreTheRules};
 ghost use Rattle.crash.specs.EffectLaws.{EffectsAreTheEntries};
+ghost use Rattle.crash.specs.WordLaws.{WordsAreTheirs};
 ghost use Rattle.crash.specs.Examples.{Examples};
+ghost use Rattle.crash.specs.NodeExamples.{NodeExamples};
+
+/// What the words on lists say, place by place.
+pub fn words_are_theirs()
+    ensures { WordsAreTheirs }
+{}
 
 /// What every other fact here uses of when a write is durable.
 pub fn durable_laws()
     ensures { DurableLaws }
 {}
 
-/// The effects of entries write what the entries write.
-#[tactic(auto, using(crate::proofs::Effecting::same_sectors, crate::proofs::Effecting::same_contents))]
+/// The effects of entries write what the entries write, and carry their flush and FUA.
+#[tactic(auto, using(crate::proofs::Effecting::same_sectors, crate::proofs::Effecting::same_contents, crate::proofs::Effecting::same_flush, crate::proofs::Effecting::same_fua))]
 pub fn effects_are_the_entries()
     ensures { EffectsAreTheEntries }
 {}
@@ -57,4 +64,9 @@ pub fn nodes_are_the_rules()
 #[tactic(auto, unfolding(crate::specs::States::is_durable, crate::specs::States::numbers, crate::specs::States::candidates, crate::specs::States::columns, crate::specs::States::states, crate::specs::States::points, crate::specs::States::list, tree::specs::Prints::print_of))]
 pub fn examples_stand()
     ensures { Examples }
+{}
+
+/// Small rows of marks.
+pub fn node_examples_stand()
+    ensures { NodeExamples }
 {}
