@@ -1,7 +1,7 @@
 //! How a program is called.
-ghost use Rattle.std.specs.Prelude.{◌≤◌, ◌⊎◌, Ok, OnOk, IfSome, ⊤};
+ghost use Rattle.std.specs.Prelude.{◌≡◌, ◌≤◌, ◌⊎◌, Ok, OnOk, IfSome, map, option_map, string_bytes, ⊤};
 ghost use Rattle.std.specs.Process.{exit_status};
-ghost use Rattle.console.specs.Words.{AsksText};
+ghost use Rattle.console.specs.Words.{AsksText, asked_text};
 
 use crate::failed::Failed;
 use crate::program::Program;
@@ -88,7 +88,8 @@ impl<'a> Usage<'a> {
 
     /// The text that the words ask for, if they ask for one.
     fn text_asked(&self, words: &[String]) -> Option<&'a str>
-        ensures { IfSome result (λ _. AsksText words.now) }
+        ensures asks { IfSome result (λ _. AsksText words.now) }
+        ensures text { option_map (λ text. text.now) result ≡ asked_text self.now.help.now (option_map (λ text. text.now) self.now.version) (map string_bytes words.now) }
     {
         let [word] = words else {
             return None;
