@@ -11,7 +11,7 @@ use tree::Tree;
 // A fault leaves no tree here: `recover` is handed one by a rule, and this call makes it for that. `below` and `kept`
 // relate a store before to the one after, which no type does.
 /// Recovers the image that the overlay shows, and copies the image afterwards to `out`, if that
-/// has as many sectors. The store below the overlay is as it was.
+/// has as many sectors. The overlay shows the image afterwards, and the store below it is as it was.
 pub fn recover_apart<F: FileSystem, A: ImageStore, B: ImageStore>(
     system: &F,
     over: &mut Overlay<A>,
@@ -19,6 +19,7 @@ pub fn recover_apart<F: FileSystem, A: ImageStore, B: ImageStore>(
 ) -> Result<Tree, Fault>
     ensures told { outcome_of result ≡ F.FileSystem.outcome system.now (shown A.ImageStore.sectors over.old) }
     ensures out { B.ImageStore.sectors out.new ≡ (if nat_eq (length (shown A.ImageStore.sectors over.old)) (length (B.ImageStore.sectors out.old)) then F.FileSystem.after system.now (shown A.ImageStore.sectors over.old) else B.ImageStore.sectors out.old) }
+    ensures over { shown A.ImageStore.sectors over.new ≡ F.FileSystem.after system.now (shown A.ImageStore.sectors over.old) }
     ensures below { over.new.below ≡ over.old.below }
     ensures kept { B.ImageStore.keeps out.old out.new }
 {
