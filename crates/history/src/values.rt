@@ -7,10 +7,11 @@ use crate::cells::History;
 use crate::refusal::Refusal;
 
 impl<'a, T: Copy> History<'a, T> {
-    /// A history of one value; on cells that are not 8 it is empty.
+    /// A history of one value; on cells that are not 8 it is empty, and the cells are as they were.
     pub fn start(cells: &'a mut [T], value: T) -> History<'a, T>
         ensures values { held result ≡ (if nat_eq (length cells.old) 8 then value ∷ [] else []) }
         ensures lent { SameCells cells.entry result.cells }
+        ensures other { nat_eq (length cells.old) 8 ≡ false → result.cells.now ≡ cells.old }
     {
         if cells.len() != CELLS {
             return History { cells, used: 0 };
