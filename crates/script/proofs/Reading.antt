@@ -6,7 +6,8 @@ use Rattle.std.proofs.lemmas.List.Elements.{All-head, All-tail}
 use Rattle.std.proofs.lemmas.Bool.{ne_eqb}
 use Rattle.script.specs.declared.spoken.Spoken.{Spoken}
 use Rattle.script.specs.Spelling.{Spells, Finds}
-use Rattle.script.specs.Lines.{First, lines, StopsAt}
+use Rattle.script.specs.Lines.{First, lines, StopsAt, Stopped}
+use Rattle.script.specs.declared.refusal.Refusal.TheVariants.{Memory}
 
 -- THE FIRST LINE, and the lines behind it.
 lines_cut : (line rest : List ℕ) → All (λ b. b ≢ 10) line → lines (line ++ 10 ∷ rest) ≡ line ∷ lines rest
@@ -49,6 +50,16 @@ pub one_more : (t rest line after : List ℕ) (calls : List Spoken) (c : Spoken)
 one_more t rest line after calls c some f r s =
     let e = lines_first rest line after (λ z. let k = ap length z in omega arith) f in
     (r.0 ++ line ∷ [], r.1 ∙ ap (λ l. r.0 ++ l) e ∙ sym (append_assoc r.0 (line ∷ []) (lines after)), zip_push calls r.0 c line r.2 s)
+
+-- where a line spells a call, the first line of all spells one
+begins_by : (t rest line after : List ℕ) (calls : List Spoken) (done : List (List ℕ)) (c : Spoken) → lines rest ≡ line ∷ lines after → lines t ≡ done ++ lines rest → AllZip Spells calls done → Spells c line → Stopped Memory (lines t)
+begins_by t rest line after calls [] c l e z s = (c, line, lines after, e ∙ l, s)
+begins_by t rest line after [] (m ∷ ms) c l e z s = absurd z
+begins_by t rest line after (d ∷ ds) (m ∷ ms) c l e z s = (d, m, ms ++ lines rest, e, z.0)
+
+pub begins : (t rest line after : List ℕ) (calls : List Spoken) (c : Spoken) → 0 < length rest → First rest line after → Reading t calls rest → Spells c line → Stopped Memory (lines t)
+begins t rest line after calls c some f r s =
+    begins_by t rest line after calls r.0 c (lines_first rest line after (λ z. let k = ap length z in omega arith) f) r.1 r.2 s
 
 pub all_read : (t rest : List ℕ) (calls : List Spoken) → length rest ≡ 0 → Reading t calls rest → AllZip Spells calls (lines t)
 all_read t [] calls n r = subst (AllZip Spells calls) (sym (r.1 ∙ append-nil r.0)) r.2

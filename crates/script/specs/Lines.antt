@@ -1,5 +1,5 @@
 -- The lines of a script.
-use Rattle.std.specs.Prelude.{◌≡◌, ℕ, ◌+◌, ◌⊎◌, ◌≢◌, List, [], ◌∷◌, ◌++◌, length, All, ⊤, ◌==◌, if◌then◌else◌}
+use Rattle.std.specs.Prelude.{◌≡◌, ℕ, ◌+◌, ◌⊎◌, ◌≢◌, List, [], ◌∷◌, ◌++◌, length, All, ◌==◌, if◌then◌else◌}
 use Rattle.std.specs.List.{AllZip, onto_first}
 use Rattle.script.specs.declared.refusal.Refusal.{Refusal}
 use Rattle.script.specs.declared.refusal.Refusal.TheVariants.{NoCall, Memory}
@@ -24,7 +24,7 @@ abbrev pub StopsAt : ℕ → List (List ℕ) → Type 0
 StopsAt number ls = (cs : List Spoken) × (before : List (List ℕ)) × (bad : List ℕ) × (after : List (List ℕ))
     × (ls ≡ before ++ bad ∷ after) × AllZip Spells cs before × (number ≡ length before + 1) × ((c : Spoken) → Spells c bad → ⊥)
 
--- why a text with these lines is not read
+-- why a text with these lines is not read; memory is wanted for calls alone, so then the first line spells one
 abbrev pub Stopped : Refusal → List (List ℕ) → Type 0
 Stopped (NoCall line) ls = StopsAt line ls
-Stopped Memory ls = ⊤
+Stopped Memory ls = (c : Spoken) × (first : List ℕ) × (after : List (List ℕ)) × (ls ≡ first ∷ after) × Spells c first
