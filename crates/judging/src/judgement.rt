@@ -1,6 +1,6 @@
 //! What is found of a crash state.
-ghost use Rattle.std.specs.Prelude.{◌≡◌};
-ghost use Rattle.judging.specs.Codes.{code_of};
+ghost use Rattle.std.specs.Prelude.{◌≡◌, Some};
+ghost use Rattle.judging.specs.Codes.{code_of, words_of};
 
 use std::fmt;
 
@@ -31,6 +31,8 @@ impl Judgement {
 
 // By hand: a derived text would come with `Error`, and a judgement is no error.
 impl fmt::Display for Judgement {
+    ghost output = { λ j. Some (words_of j) };
+
     fn fmt<W: fmt::Write>(&self, f: &mut fmt::Formatter<W>) -> fmt::Result {
         match self {
             Judgement::Admitted => write!(f, "the tree is admitted"),

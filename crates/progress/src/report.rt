@@ -1,11 +1,11 @@
 //! The report of a run.
-ghost use Rattle.std.specs.Prelude.{◌≡◌};
+ghost use Rattle.std.specs.Prelude.{◌≡◌, Some};
 ghost use Rattle.image.specs.Sectors.{Image};
 ghost use Rattle.law.specs.Subject.{Recording};
 ghost use Rattle.law.specs.Rules.{verdict_of};
 ghost use Rattle.law.specs.Steps.{report_on};
 ghost use Rattle.progress.specs.Views.{view_of, condition_of};
-ghost use Rattle.progress.specs.Reports.{report_seen, code_of};
+ghost use Rattle.progress.specs.Reports.{report_seen, code_of, word_of};
 
 use crate::condition::{Condition, Progress};
 use std::fmt;
@@ -37,6 +37,8 @@ impl Verdict {
 
 // By hand: a derived text would come with `Error`, and a verdict is no error.
 impl fmt::Display for Verdict {
+    ghost output = { λ v. Some (word_of v) };
+
     fn fmt<W: fmt::Write>(&self, f: &mut fmt::Formatter<W>) -> fmt::Result {
         f.write_str(match self {
             Verdict::Empty => "empty",
