@@ -1,3 +1,4 @@
 pub mod Exhausted
 pub mod Told
 pub mod Stops
+pub mod Searched

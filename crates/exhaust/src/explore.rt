@@ -8,6 +8,7 @@ ghost use Rattle.run.specs.Seen.{Goes, Kept, Led, subject, view};
 ghost use Rattle.run.specs.Typed.{loading};
 ghost use Rattle.exhaust.specs.declared.watch.Stopped.TheVariants.{Declined};
 ghost use Rattle.exhaust.specs.Exhausted.{Exhausted};
+ghost use Rattle.exhaust.specs.Searched.{Searched};
 ghost use Rattle.exhaust.specs.Stops.{ByWatcher};
 ghost use Rattle.exhaust.specs.Told.{ToldAll, ToldUpTo};
 
@@ -23,7 +24,8 @@ pub const MOST_STATES_IN_ALL: u64 = 269_484_032;
 /// Loads a recording into an Empty run, then gives and judges every state of the list, telling each
 /// to the watcher; and reports. The search ends, nothing is forgone, and the report says safe
 /// exactly where every permitted state of every crash point recovers to an admitted tree; else it
-/// names the first unsafe state of the list. Whatever is answered, the run's history goes on.
+/// names the first unsafe state of the list. Whatever is answered, the run's history goes on by the
+/// calls of the search alone.
 pub fn explore_all<S: ImageStore, F: FileSystem, W: Watch>(
     run: &mut Run<S, F>,
     recording: &[u8],
@@ -31,7 +33,7 @@ pub fn explore_all<S: ImageStore, F: FileSystem, W: Watch>(
 ) -> Result<Report, Stopped<W::Stop>>
     ensures kept { Kept run.old run.new }
     ensures declined { (f : Refusal) → result ≡ Err (Declined f) → Goes run.old (loading recording.now (Err f)) run.new }
-    ensures went { (s : Subject) (h : History) → Led s h run.old → (k : History) × Led s k run.new }
+    ensures went { (s : Subject) (h : History) → Led s h run.old → (k : History) × Led s k run.new × Searched W.Watch.hears h recording.now watch.old result watch.new k }
     ensures heard { IfOk result (λ report. ToldAll W.Watch.hears (subject run.old) recording.now watch.old watch.new) }
     ensures stopped { IfErr result (ByWatcher (λ stop. ToldUpTo W.Watch.hears (subject run.old) recording.now watch.old stop watch.new)) }
     ensures ended { IfOk result (λ _. (view run.new).condition ≡ Ended) }
