@@ -1,5 +1,5 @@
 -- What a caller said and heard.
-use Rattle.std.specs.Prelude.{◌≡◌, ℕ, ◌+◌, ◌≤◌, ◌⊎◌, Some, None, Option, Result}
+use Rattle.std.specs.Prelude.{◌≡◌, ℕ, ◌+◌, ◌<◌, ◌⊎◌, Some, None, Option, Result}
 use Rattle.law.specs.History.{History, then}
 use Rattle.law.specs.Law.{call_of}
 use Rattle.run.specs.declared.call.Call.{Call}
@@ -37,6 +37,6 @@ abbrev pub Spoken : {C : Type 0} → (C → Option Reply → Option Call → C �
 Spoken says c silent c' = c' ≡ c
 Spoken {C} says c (said t call reply) c' = (m : C) × Spoken says c t m × says m (last_of t) (Some call) c' × (call_of (event_of (call_seen call) reply) ≡ call_seen call)
 
--- how a talk ends: so many calls are made, or the caller has no more
+-- how a talk ends: so many calls are made, and the caller is asked for no more; or it is asked before, and has no more
 abbrev pub Stops : {C : Type 0} → (C → Option Reply → Option Call → C → Type 0) → C → (budget : ℕ) → Talk → C → Type 0
-Stops {C} says c budget t c' = ((calls t ≡ budget) × Spoken says c t c') ⊎ ((m : C) × (calls t ≤ budget) × Spoken says c t m × says m (last_of t) None c')
+Stops {C} says c budget t c' = ((calls t ≡ budget) × Spoken says c t c') ⊎ ((m : C) × (calls t < budget) × Spoken says c t m × says m (last_of t) None c')
