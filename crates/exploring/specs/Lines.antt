@@ -1,11 +1,14 @@
 -- The lines of the output for programs.
-use Rattle.std.specs.Prelude.{ℕ, ◌/◌, ◌%◌, false, List, [], ◌∷◌, ◌++◌, flat_map, codes, decimal, Some, None}
+use Rattle.std.specs.Prelude.{ℕ, ◌/◌, ◌%◌, false, List, [], ◌∷◌, ◌++◌, flat_map, codes, decimal, Some, None, Ok, Err, Option, option_map}
+use Rattle.std.specs.Io.KnownBytes.{Appends}
 use Rattle.std.specs.Fmt.{digit_glyph}
 use Rattle.law.specs.History.{Report}
 use Rattle.judging.specs.Codes as judging
 use Rattle.progress.specs.Reports.{report_seen}
 use Rattle.run.specs.declared.call.Answer.{Answer}
 use Rattle.run.specs.declared.call.Answer.TheVariants.{Loaded, Next, Found, Forgone, Shown, Reported}
+use Rattle.run.specs.Refusals.{code_of}
+use Rattle.work.specs.Talks.{Reply}
 
 -- a line's last number, ended by a newline (10)
 abbrev pub ended : ℕ → List ℕ
@@ -39,3 +42,13 @@ accepted_line (Found judgement) = let code = judging.code_of judgement in codes 
 accepted_line Forgone = codes "ok" ++ 10 ∷ []
 accepted_line (Shown content) = codes "ok " ++ (flat_map byte_text content ++ 10 ∷ [])
 accepted_line (Reported report) = report_line (report_seen report)
+
+-- the line of the answer to a call; want of memory has none
+abbrev pub answer_line : Reply → Option (List ℕ)
+answer_line (Ok accepted) = Some (accepted_line accepted)
+answer_line (Err refusal) = option_map refusal_line (code_of refusal)
+
+-- What a writer holds has grown by these lines; where an answer has no line, nothing is written.
+abbrev pub Written : (old new : Option (List ℕ)) → Option (List ℕ) → Type 0
+Written old new None = ⊥
+Written old new (Some lines) = Appends old new lines

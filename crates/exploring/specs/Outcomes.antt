@@ -1,5 +1,5 @@
 -- What comes of an exploration, and its line.
-use Rattle.std.specs.Prelude.{◌≡◌, ℕ, List, Some, None, Ok, Err, Option, Result, option_map}
+use Rattle.std.specs.Prelude.{◌≡◌, ℕ, List, [], Some, None, Ok, Err, Option, Result, option_map}
 use Rattle.console.specs.declared.failed.Failed.{Failed}
 use Rattle.law.specs.Subject.{Subject, declines}
 use Rattle.law.specs.Rules.{Late}
@@ -15,8 +15,9 @@ abbrev pub DeclinedAs : Subject → List ℕ → Option (ℕ × ℕ) → Type 0
 DeclinedAs s bytes (Some c) = s.loads bytes ≡ declines c.0 c.1
 DeclinedAs s bytes None = Late (s.loads bytes)
 
--- the line of the report, or of the refusal by number and place; else there is none
+-- the line of the report, or of the refusal by number and place: want of memory has none; nothing is written of a search that
+-- was stopped
 abbrev pub outcome_line : Result Report (Stopped Failed) → Option (List ℕ)
 outcome_line (Ok report) = Some (report_line (report_seen report))
 outcome_line (Err (Declined refusal)) = option_map refusal_line (code_of refusal)
-outcome_line (Err (Watcher why)) = None
+outcome_line (Err (Watcher why)) = Some []

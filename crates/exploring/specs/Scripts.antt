@@ -1,12 +1,14 @@
 -- How a script is followed.
 use Rattle.std.specs.Prelude.{◌≡◌, ℕ, ◌⊎◌, Bool, true, List, [], ◌∷◌, ◌++◌, map, Some, None, Option, IsSome}
+use Rattle.std.specs.Fmt.{option_append}
 use Rattle.law.specs.History as H
 use Rattle.console.specs.declared.failed.Failed.{Failed}
 use Rattle.script.specs.declared.spoken.Spoken.{Spoken}
 use Rattle.script.specs.declared.spoken.Spoken.TheVariants.{Load, Advance, Judge, Forgo, Look, Report}
 use Rattle.run.specs.declared.call.Call.{Call}
 use Rattle.run.specs.Events.{call_seen}
-use Rattle.work.specs.Talks.{Talk, silent, said}
+use Rattle.work.specs.Talks.{Talk, Reply, silent, said}
+use Rattle.exploring.specs.Lines.{answer_line}
 
 -- the call that is meant, where load loads the recording in these bytes
 abbrev pub meant : List ℕ → Spoken → H.Call
@@ -30,3 +32,13 @@ made (said t call reply) = made t ++ call_seen call ∷ []
 -- THE SCRIPT IS FOLLOWED: the calls that were made are its first ones, in order; and they are all, if that went well
 abbrev pub Followed : (bytes : List ℕ) → List Spoken → (well : Bool) → Talk → Type 0
 Followed bytes script well t = (rest : List Spoken) × (map (meant bytes) script ≡ made t ++ map (meant bytes) rest) × (well ≡ true → rest ≡ [])
+
+-- the lines of the answers, in order
+abbrev pub lines_of : Talk → Option (List ℕ)
+lines_of silent = Some []
+lines_of (said t call reply) = option_append (lines_of t) (answer_line reply)
+
+-- the line of the answer that is heard; before the first call there is none
+abbrev pub heard_line : Option Reply → Option (List ℕ)
+heard_line None = Some []
+heard_line (Some reply) = answer_line reply

@@ -1,10 +1,10 @@
 //! The lines of the output for programs.
-ghost use Rattle.std.specs.Prelude.{◌≡◌, ◌++◌, IfOk, IfSome, OnOk, MatchResult, flat_map, string_bytes};
+ghost use Rattle.std.specs.Prelude.{◌≡◌, ◌++◌, IfOk, OnOk, flat_map, option_map, string_bytes};
 ghost use Rattle.std.specs.Io.KnownBytes.{Appends};
 ghost use Rattle.judging.specs.Codes.{code_of as found_code};
 ghost use Rattle.progress.specs.Reports.{report_seen};
 ghost use Rattle.run.specs.Refusals.{code_of};
-ghost use Rattle.exploring.specs.Lines.{accepted_line, byte_text, refusal_line, report_line, state_line};
+ghost use Rattle.exploring.specs.Lines.{Written, accepted_line, answer_line, byte_text, refusal_line, report_line, state_line};
 
 use console::Failed;
 use judging::Judgement;
@@ -56,7 +56,7 @@ fn write_code<W: Write>(out: &mut W, code: (u64, u64)) -> io::Result<()>
 
 /// Writes the line of a refusal. Want of memory has no line: it is the failure.
 pub fn write_refusal<W: Write>(out: &mut W, refusal: &Refusal) -> Result<(), Failed>
-    ensures { OnOk result (IfSome (code_of refusal.now) (λ code. Appends (W.Write.contents out.old) (W.Write.contents out.new) (refusal_line code))) }
+    ensures { OnOk result (Written (W.Write.contents out.old) (W.Write.contents out.new) (option_map refusal_line (code_of refusal.now))) }
 {
     let code = refusal.code().ok_or(Failed::Memory)?;
     write_code(out, code)?;
@@ -109,7 +109,7 @@ pub fn write_answer<W: Write>(
     out: &mut W,
     answer: &Result<Answer, Refusal>,
 ) -> Result<(), Failed>
-    ensures { OnOk result (MatchResult answer.now (λ accepted. Appends (W.Write.contents out.old) (W.Write.contents out.new) (accepted_line accepted)) (λ refusal. IfSome (code_of refusal) (λ code. Appends (W.Write.contents out.old) (W.Write.contents out.new) (refusal_line code)))) }
+    ensures { OnOk result (Written (W.Write.contents out.old) (W.Write.contents out.new) (answer_line answer.now)) }
 {
     match answer {
         Ok(accepted) => write_accepted(heap, out, accepted),

@@ -1,10 +1,11 @@
 //! A run made by a script.
-ghost use Rattle.std.specs.Prelude.{◌≡◌, is_ok};
+ghost use Rattle.std.specs.Prelude.{◌≡◌, None, OnOk, is_ok};
 ghost use Rattle.law.specs.History.{Report, begun as nothingCalled, then, reported};
 ghost use Rattle.law.specs.Law.{Law};
 ghost use Rattle.meaning.specs.Subjects.{subject_of};
 ghost use Rattle.run.specs.Events.{call_seen};
-ghost use Rattle.exploring.specs.Scripts.{Chosen, Followed, meant};
+ghost use Rattle.exploring.specs.Lines.{Written};
+ghost use Rattle.exploring.specs.Scripts.{Chosen, Followed, heard_line, lines_of, meant};
 ghost use Rattle.work.specs.Talks.{Talk, history_after};
 
 use crate::lines::write_answer;
@@ -42,8 +43,9 @@ fn call_of(spoken: Spoken, recording: &[u8]) -> Call<'_>
 }
 
 impl<'a, W: Write> Caller<'a> for Scripted<'a, '_, W> {
-    ghost says = { λ s _ call t. Chosen s.recording.now s.calls.now t.calls.now t.failed call × (t.recording.now ≡ s.recording.now) };
+    ghost says = { λ s last call t. Chosen s.recording.now s.calls.now t.calls.now t.failed call × (t.recording.now ≡ s.recording.now) × (t.failed ≡ None → (s.failed ≡ None) × Written (W.Write.contents s.out.now) (W.Write.contents t.out.now) (heard_line last)) × (t.out.ghost_name ≡ s.out.ghost_name) };
 
+    #[tactic(auto, using(crate::proofs::Writing::nothing_written))]
     fn next(&mut self, last: Option<Result<Answer, Refusal>>) -> Option<Call<'a>> {
         if let Some(answer) = last {
             if let Err(failed) = write_answer(self.heap, self.out, &answer) {
@@ -66,7 +68,7 @@ pub fn follow_script<S: ImageStore + Drop, F: FileSystem + Drop, W: Write>(
     calls: &[Spoken],
     out: &mut W,
 ) -> Result<(), Failed>
-    ensures { (t : Talk) × (r : Report) × Followed recording.now calls.now (is_ok result) t × Law (subject_of F.FileSystem.LEAST (F.FileSystem.outcome fs) (S.ImageStore.sectors base)) (then (history_after nothingCalled t) (reported r)) (S.ImageStore.sectors base) }
+    ensures { (t : Talk) × (r : Report) × Followed recording.now calls.now (is_ok result) t × OnOk result (Written (W.Write.contents out.old) (W.Write.contents out.new) (lines_of t)) × Law (subject_of F.FileSystem.LEAST (F.FileSystem.outcome fs) (S.ImageStore.sectors base)) (then (history_after nothingCalled t) (reported r)) (S.ImageStore.sectors base) }
 {
     // One more than calls: after the last the caller hears its answer.
     let budget = (calls.len() as u64).saturating_add(1);

@@ -1,12 +1,12 @@
 //! A whole exploration.
-ghost use Rattle.std.specs.Prelude.{IfErr, IfOk, IfSome, OnOk};
-ghost use Rattle.std.specs.Io.KnownBytes.{Appends};
+ghost use Rattle.std.specs.Prelude.{IfErr, IfOk, OnOk};
 ghost use Rattle.meaning.specs.Subjects.{subject_of};
 ghost use Rattle.progress.specs.Reports.{report_seen};
 ghost use Rattle.run.specs.Refusals.{code_of};
 ghost use Rattle.exhaust.specs.Exhausted.{Exhausted};
 ghost use Rattle.exhaust.specs.Stops.{ByRun, ByWatcher};
 ghost use Rattle.exhaust.specs.Told.{ToldAll, ToldUpTo};
+ghost use Rattle.exploring.specs.Lines.{Written};
 ghost use Rattle.exploring.specs.Outcomes.{DeclinedAs, outcome_line};
 
 use crate::lines::{write_refusal, write_report};
@@ -42,8 +42,9 @@ pub fn explore<S: ImageStore + Drop, F: FileSystem + Drop, W: Watch<Stop = Faile
 }
 
 /// Writes the line of an exploration's report, or of its refusal.
+#[tactic(auto, using(crate::proofs::Writing::nothing_written))]
 pub fn write_outcome<W: Write>(out: &mut W, outcome: &Outcome) -> Result<(), Failed>
-    ensures { OnOk result (IfSome (outcome_line outcome.now) (Appends (W.Write.contents out.old) (W.Write.contents out.new))) }
+    ensures { OnOk result (Written (W.Write.contents out.old) (W.Write.contents out.new) (outcome_line outcome.now)) }
 {
     match outcome {
         Ok(report) => write_report(out, report)?,
