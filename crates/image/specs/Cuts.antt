@@ -105,6 +105,15 @@ untouched_onward s t u p q = (
   ap (λ n. drop (512 * count_in n) u) (sym p.0) ∙ q.1 ∙ ap (λ n. drop (512 * count_in n) t) p.0 ∙ p.1,
 )
 
+-- said byte by byte: the row is as long as before, and behind the sectors that count each byte is the same
+pub untouched_says : (s t : List ℕ) → Untouched s t → (length t ≡ length s) × ((k : ℕ) → 512 * count_in (length s) ≤ k → slice_index t k ≡ slice_index s k)
+untouched_says s t u = (u.0, λ k h. same k (512 * count_in (length s)) h u.1)
+  where
+    same : (k m : ℕ) → m ≤ k → drop m t ≡ drop m s → slice_index t k ≡ slice_index s k
+    same k m h e =
+        let i : k ≡ m + (k - m) = omega arith in
+        ap (λ x. slice_index t x) i ∙ sym (get_or-drop m t (k - m) 0) ∙ ap (λ l. slice_index l (k - m)) e ∙ get_or-drop m s (k - m) 0 ∙ ap (λ x. slice_index s x) (sym i)
+
 -- a write of a sector that counts: the image after it, and what it leaves of the row
 pub cut_written : (b : List ℕ) (n : ℕ) (s : List ℕ) → n < length (cut b) → length s ≡ 512 → cut (put b n s) ≡ slice_set (cut b) n s
 cut_written b n s h whole = cut_put b n s (within_cut b n h) whole (rw length_cut at h)

@@ -44,6 +44,10 @@ sector_bytes image n s = elim (cases_lt n (length image)) [
   | inr g ↦ rw (get_or_past image n blank g) blank_bytes
 ]
 
+-- and each byte of it is below 256
+pub byte_below : (image : Image) (n i : ℕ) → Shaped image → slice_index (sector_of image n) i < 256
+byte_below image n i s = sector_bytes image n s i
+
 -- an image with another sector of 512 bytes is still one
 pub set_shaped : (image : Image) (n : ℕ) (new : Sector) → Shaped image → length new ≡ 512 → Bytes new → Shaped (slice_set image n new)
 set_shaped image n new s long bytes = record {
