@@ -3,7 +3,7 @@ use Rattle.std.specs.Prelude.{◌≡◌, ℕ, zero, suc, ◌<◌, ◌≤◌, tru
 use Rattle.std.proofs.Common.{sym, ap, ◌∙◌, inl, inr, arith}
 use Rattle.std.proofs.lemmas.Bool.{and_parts, and_from, cases_eq, cases_lt, eq-eqb, ne_eqb, eqb-true, lt-ltb, ltb-true, leb-true, false≢true}
 use Rattle.std.proofs.lemmas.List.{get_or_past, get_or-replicate}
-use Rattle.tree.specs.Rules.{is_directory, parent_of, length_of, below, placed, allowed, bare}
+use Rattle.tree.specs.Rules.{is_directory, parent_of, below, placed, allowed, bare}
 use Rattle.tree.specs.declared.node.Node.{Node}
 use Rattle.tree.specs.declared.node.Node.TheVariants.{Absent, Directory, File}
 
@@ -74,15 +74,10 @@ module _ (nodes : List Node) (size : length nodes ≡ 16) (ok : (k : ℕ) → k 
     | inr h ↦ let q = ap parent_of (past k h) in cc
   ]
 
-  fits : (k : ℕ) (n : Node) → placed nodes k n ≡ true → length_of n ≤ 512
-  fits k Absent h = omega arith
-  fits k (Directory p) h = omega arith
-  fits k (File p l r) h = file_fits nodes k p l r h
-
-  pub lengths : (k : ℕ) → length_of (slice_index_or nodes k Absent) ≤ 512
-  lengths k = elim (cases_lt k 16) [
-    | inl h ↦ fits k (slice_index_or nodes k Absent) (stands k h)
-    | inr h ↦ let q : length_of (slice_index_or nodes k Absent) ≡ 0 = ap length_of (past k h) in omega (arith, q)
+  pub lengths : (k p l h : ℕ) → slice_index_or nodes k Absent ≡ File p l h → l ≤ 512
+  lengths k p l h e = elim (cases_lt k 16) [
+    | inl inside ↦ file_fits nodes k p l h (ap (placed nodes k) (sym e) ∙ stands k inside)
+    | inr outside ↦ let q = past k outside in cc
   ]
 
 -- node 0 alone keeps them

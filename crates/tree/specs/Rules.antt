@@ -14,12 +14,6 @@ parent_of Absent = None
 parent_of (Directory parent) = Some parent
 parent_of (File parent length print) = Some parent
 
--- the bytes of a file
-abbrev pub length_of : Node → ℕ
-length_of Absent = 0
-length_of (Directory parent) = 0
-length_of (File parent length print) = length
-
 -- the parent of node k is a directory with a lower number
 abbrev pub below : List Node → (k parent : ℕ) → Bool
 below nodes k parent = nat_lt parent k && is_directory (slice_index_or nodes parent Absent)

@@ -1,7 +1,7 @@
 //! A whole tree, with the rules that it keeps.
 ghost use Rattle.std.specs.Prelude.{◌≡◌, ℕ, ◌<◌, ◌≤◌, true, length, Some, slice_index_or};
-ghost use Rattle.tree.specs.Rules.{is_directory, parent_of, length_of};
-ghost use Rattle.tree.specs.declared.node.Node.TheVariants.{Absent, Directory};
+ghost use Rattle.tree.specs.Rules.{is_directory, parent_of};
+ghost use Rattle.tree.specs.declared.node.Node.TheVariants.{Absent, Directory, File};
 
 use crate::NODES;
 use crate::node::Node;
@@ -15,5 +15,5 @@ pub struct Tree {
     ghost root: { slice_index_or nodes 0 Absent ≡ Directory 0 },
     ghost lower: { ((k p : ℕ) → 0 < k → parent_of (slice_index_or nodes k Absent) ≡ Some p → p < k) },
     ghost directories: { ((k p : ℕ) → parent_of (slice_index_or nodes k Absent) ≡ Some p → is_directory (slice_index_or nodes p Absent) ≡ true) },
-    ghost lengths: { ((k : ℕ) → length_of (slice_index_or nodes k Absent) ≤ 512) },
+    ghost lengths: { ((k p l h : ℕ) → slice_index_or nodes k Absent ≡ File p l h → l ≤ 512) },
 }
