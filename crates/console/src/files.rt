@@ -3,7 +3,10 @@ ghost use Rattle.std.specs.Prelude.{◌≡◌, IfOk};
 
 use crate::failed::Failed;
 use crate::program::Program;
-use std::fs;
+use std::fs::{self, Files};
+
+/// What is added to a file's name for a moment.
+const ASIDE: &str = ".renamed-to-compare";
 
 /// A file that was read: its name, and the bytes in it.
 #[derive(Drop)]
@@ -37,7 +40,7 @@ impl Program<'_> {
         if inputs.iter().any(|input| input.may_be(rt, out)) {
             let aside = self.put_aside(out)?;
             for input in inputs {
-                if !fs::exists(rt, input.path).unwrap_or(false) {
+                if input.is_gone(rt) {
                     fs::rename(rt, aside.as_str(), out)?;
                     let path = input.path;
                     return Err(self.refused(format_args!(
@@ -53,7 +56,7 @@ impl Program<'_> {
     /// Gives the file `out` another name for a moment, and answers that name.
     fn put_aside(&self, out: &str) -> Result<String, Failed> {
         let rt = self.rt;
-        let aside = format!(in rt.alloc(); "{out}.renamed-to-compare")?;
+        let aside = format!(in rt.alloc(); "{out}{ASIDE}")?;
         if fs::exists(rt, aside.as_str())? {
             return Err(self.refused(format_args!(
                 "{aside} is in the way; remove it, or name another file for the output"
@@ -65,6 +68,15 @@ impl Program<'_> {
 }
 
 impl Input<'_> {
+    /// Whether the input's name leads nowhere any more, or to a file with another name for a moment: so
+    /// does that of an open file, as `/dev/stdin`.
+    fn is_gone(&self, rt: &HostRuntime) -> bool {
+        match rt.canonicalize(rt.alloc(), self.path) {
+            Ok(found) => found.as_str().ends_with(ASIDE),
+            Err(_) => !fs::exists(rt, self.path).unwrap_or(false),
+        }
+    }
+
     /// Whether `out` names a plain file with just these bytes.
     fn may_be(&self, rt: &HostRuntime, out: &str) -> bool {
         fs::metadata(rt, out).is_ok_and(|found| found.is_file())
