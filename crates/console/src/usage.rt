@@ -47,7 +47,10 @@ impl<'a> Usage<'a> {
         requires { F.IsAlwaysCallable work }
     {
         let rt = program.rt;
-        let words: Vec<String> = env::args(rt)?.skip(1).collect(rt.alloc())?;
+        let words: Vec<String> = env::args(rt)
+            .map_err(|e| program.refused(format_args!("the words cannot be read: {e}")))?
+            .skip(1)
+            .collect(rt.alloc())?;
         self.follow_words(program, words, work)
     }
 

@@ -85,9 +85,12 @@ impl<F: FileSystem + Copy + Drop> Release<'_, F> {
 }
 
 /// The bytes on standard input.
-fn read_input(rt: &HostRuntime) -> Result<Vec<u8>, Failed> {
+fn read_input(program: &Program) -> Result<Vec<u8>, Failed> {
+    let rt = program.rt;
     let mut bytes = Vec::new(rt.alloc());
-    rt.reader().read_to_end(&mut bytes)?;
+    rt.reader().read_to_end(&mut bytes).map_err(|e| program.refused(format_args!(
+        "cannot read the script on standard input: {e}"
+    )))?;
     Ok(bytes)
 }
 
@@ -95,12 +98,14 @@ fn read_input(rt: &HostRuntime) -> Result<Vec<u8>, Failed> {
 fn read_calls(program: &Program, file: &str) -> Result<Vec<Spoken>, Failed> {
     let rt = program.rt;
     let bytes = match file {
-        "-" => read_input(rt)?,
+        "-" => read_input(program)?,
         _ => program.read("script", file)?.bytes,
     };
     read_script(rt.alloc(), bytes.as_slice()).map_err(|why| match why {
         Refusal::NoCall { line } => {
-            program.refused(format_args!("line {line} of the script is no call"))
+            program.refused(format_args!(
+                "line {line} of the script is no call; load, advance, judge, forgo, look N, look N LENGTH or report is one"
+            ))
         }
         Refusal::Memory => Failed::Memory,
     })
