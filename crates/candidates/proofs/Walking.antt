@@ -5,7 +5,7 @@ use Rattle.std.proofs.lemmas.Bool.{cases_lt, le-ltb, and_right}
 use Rattle.std.proofs.lemmas.List.{length-take}
 use Rattle.tree.specs.declared.node.Node.{Node}
 use Rattle.mark.specs.declared.mark.Mark.{Mark}
-use Rattle.image.specs.Sectors.{Image}
+use Rattle.image.specs.Sectors.{Image, Sector}
 use Rattle.crash.specs.Rules.{effect_at}
 use Rattle.crash.specs.States.{numbers}
 use Rattle.crash.specs.Nodes.{mark_at, node_turn, node_values}
@@ -14,7 +14,7 @@ use Rattle.crash.proofs.Walking.{walk_numbers}
 use Rattle.trace.specs.declared.steps.Trace.{Trace}
 use Rattle.trace.specs.declared.steps.Step.{Step}
 use Rattle.trace.specs.Meaning.{HasNoEntry, covering, recording_of, step_at, step_effect}
-use Rattle.trace.proofs.Writing.{effect_one, no_step}
+use Rattle.trace.proofs.Writing.{covers_writes, effect_one, no_step}
 use Rattle.history.specs.declared.cells.History.{History}
 use Rattle.history.specs.Held.{held}
 use Rattle.candidates.specs.declared.turns.Turn.{Turn}
@@ -22,19 +22,20 @@ use Rattle.candidates.specs.Turns.{written_by, added, turned, Follows}
 use Rattle.candidates.specs.Gathering.{FirstAbove, NoneAbove}
 
 -- the effect of an entry is that of its step
-pub effect_step : (base : Image) (t : Trace) (k : ℕ) → effect_at (recording_of base t) k ≡ step_effect (step_at (vec_items t.steps) k)
+pub effect_step : (base : Image) (t : Trace) (k : ℕ) → effect_at (recording_of base t) k ≡ step_effect (vec_items t.sectors) (step_at (vec_items t.steps) k)
 effect_step base t zero = refl
 effect_step base t (suc i) = effect_one t i
 
 -- no entry, no turn
 pub no_turn : (base : Image) (t : Trace) (k s : ℕ) (h : List ℕ) → HasNoEntry t k → h ≡ turn (effect_at (recording_of base t) k) s k h
 no_turn base t k s h n =
-    sym (ap (λ e. turn e s k h) (effect_step base t k ∙ ap step_effect (no_step t k n)) ∙ ap (λ b. cond b (put h k) h) (and_right (leb 0 s) (ltb s 0) (le-ltb s 0 (omega arith))))
+    sym (ap (λ e. turn e s k h) (effect_step base t k ∙ ap (step_effect (vec_items t.sectors)) (no_step t k n)) ∙ ap (λ b. cond b (put h k) h) (and_right (leb 0 s) (ltb s 0) (le-ltb s 0 (omega arith))))
 
 -- the turn of a step is what its effect does to a history
-pub step_turn : (step : Step) (s number : ℕ) (puts : Option ℕ) (held : List ℕ) → puts ≡ then_some (covering step s) number →
-    turned (record { settles = step.flush; puts = puts; fua = step.fua }) held ≡ turn (step_effect step) s number held
-step_turn step s number puts held e = ap (λ p. added p step.fua after) e ∙ go (covering step s)
+pub step_turn : (sectors : List Sector) (step : Step) (s number : ℕ) (puts : Option ℕ) (held : List ℕ) → puts ≡ then_some (covering step s) number →
+    turned (record { settles = step.flush; puts = puts; fua = step.fua }) held ≡ turn (step_effect sectors step) s number held
+step_turn sectors step s number puts held e =
+    ap (λ p. added p step.fua after) e ∙ go (covering step s) ∙ ap (λ b. cond b (written_by step.fua number after) after) (covers_writes sectors step s)
   where
     after : List ℕ
     after = cond step.flush (settle held) held

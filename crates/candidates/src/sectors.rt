@@ -19,13 +19,7 @@ use trace::Trace;
 fn turn(trace: &Trace, sector: usize, number: usize) -> Turn<usize>
     ensures { (base : Image) (held : List ℕ) → turned result held ≡ turn_by (effect_at (recording_of base trace.now) number) sector number held }
 {
-    let Some(step) = trace.step(number) else {
-        return Turn {
-            settles: false,
-            puts: None,
-            fua: false,
-        };
-    };
+    let step = trace.step(number);
     let writes = step.covers(sector);
     Turn {
         settles: step.flush,

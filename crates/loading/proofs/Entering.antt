@@ -1,7 +1,8 @@
 -- One entry at the front of what is left: what is asked of it, in order, and what is read.
-use Rattle.std.proofs.Common.{◌≡◌, ℕ, zero, suc, ◌+◌, ◌-◌, ◌*◌, ◌<◌, ◌≤◌, Bool, true, false, cond, not, ◌&&◌, eqb, ltb, List, [], length, is_some, Some, None, Ok, Err, Option, Result, unwrap_or, sym, refl, ap, ◌∙◌, inl, inr, arith}
+use Rattle.std.proofs.Common.{◌≡◌, ℕ, zero, suc, ◌+◌, ◌-◌, ◌*◌, ◌/◌, ◌<◌, ◌≤◌, Bool, true, false, cond, not, ◌&&◌, eqb, ltb, List, [], length, drop, is_some, Some, None, Ok, Err, Option, Result, unwrap_or, sym, refl, ap, ◌∙◌, inl, inr, arith}
 use Rattle.std.specs.List.{between}
-use Rattle.std.proofs.lemmas.Bool.{cases_Bool, cases_eq, le-ltb, ltb-false, ne_eqb, eq-eqb}
+use Rattle.std.proofs.lemmas.Bool.{cases_Bool, cases_eq, le-ltb, ltb-false, ne_eqb, eq-eqb, and_cases}
+use Rattle.std.proofs.lemmas.List.{length-take}
 use Rattle.mark.specs.declared.mark.Mark.{Mark}
 use Rattle.mark.specs.declared.mark.Mark.TheVariants.{Comment}
 use Rattle.mark.specs.Found.{mark_of}
@@ -12,7 +13,7 @@ use Rattle.recording.specs.declared.entry.Flags.{Flags}
 use Rattle.recording.specs.declared.entry.Header.{Header}
 use Rattle.recording.specs.declared.entry.Reader.{Reader}
 use Rattle.recording.specs.Refusals as RC
-use Rattle.recording.specs.Items.{Item, write, discard, flush, mark, flags_of}
+use Rattle.recording.specs.Items.{Item, write, discard, flush, mark, flags_of, sectors_of, data_of}
 use Rattle.recording.specs.Entries.{sector_in, sectors_in, bits_in, text_in, sector_cut, malformed, data_in, data_cut, item_in, rest_of}
 use Rattle.recording.specs.Reading.{ahead, next_number, HeaderAt, sector_fault, entry_fault, end_fault, reader_fault, Moved, Stepping, or_else}
 use Rattle.recording.proofs.Made.{whole_sector}
@@ -237,6 +238,42 @@ pub mark_read : (x : List ℕ) (used count : ℕ) (m : Mark) → Accepted x used
 mark_read x used count m a =
     by_value (flags_of (bits_in x)).mark (mark_of (text_in x)) m a.marked
     ∙ sym (marked_item (flags_of (bits_in x)).mark (eqb (sectors_in x) 0) (flags_of (bits_in x)).discard (sector_in x) (sectors_in x) (flags_of (bits_in x)) (text_in x) (between 512 (512 + 512 * data_in x) x))
+
+-- HOW MUCH it brings: its data are no more than were asked for, and its sectors no more than the image has.
+brought : (isMark z d : Bool) (sector sectors : ℕ) (f : Flags) (text content : List ℕ) (n : ℕ) → length content / 512 ≤ n →
+    length (data_of (cond isMark (mark text) (cond z (flush sector f.fua f.discard f.metadata) (cond d (discard sector sectors f.flush f.metadata) (write sector f.flush f.fua f.metadata content))))) / 512 ≤ n
+brought true z d sector sectors f text content n h = omega arith
+brought false true d sector sectors f text content n h = omega arith
+brought false false true sector sectors f text content n h = omega arith
+brought false false false sector sectors f text content n h = h
+
+touched : (isMark z d : Bool) (sector sectors : ℕ) (f : Flags) (text content : List ℕ) (n : ℕ) → sectors ≤ n → length content / 512 ≤ n →
+    sectors_of (cond isMark (mark text) (cond z (flush sector f.fua f.discard f.metadata) (cond d (discard sector sectors f.flush f.metadata) (write sector f.flush f.fua f.metadata content)))) ≤ n
+touched true z d sector sectors f text content n h l = omega arith
+touched false true d sector sectors f text content n h l = omega arith
+touched false false true sector sectors f text content n h l = h
+touched false false false sector sectors f text content n h l = l
+
+content_few : (x : List ℕ) → length (between 512 (512 + 512 * data_in x) x) / 512 ≤ data_in x
+content_few x = let l = length-take (512 + 512 * data_in x - 512) (drop 512 x) in omega arith
+
+pub data_few : (x : List ℕ) → length (data_of (item_in x)) / 512 ≤ data_in x
+data_few x =
+    brought (flags_of (bits_in x)).mark (eqb (sectors_in x) 0) (flags_of (bits_in x)).discard (sector_in x) (sectors_in x) (flags_of (bits_in x)) (text_in x) (between 512 (512 + 512 * data_in x) x) (data_in x) (content_few x)
+
+pub sectors_few : (x : List ℕ) (used count : ℕ) (m : Mark) → Accepted x used count m → sectors_of (item_in x) ≤ count
+sectors_few x used count m a =
+    touched (flags_of (bits_in x)).mark (eqb (sectors_in x) 0) (flags_of (bits_in x)).discard (sector_in x) (sectors_in x) (flags_of (bits_in x)) (text_in x) (between 512 (512 + 512 * data_in x) x) count inside (let l = content_few x in let d = fewer (flags_of (bits_in x)).discard in omega arith)
+  where
+    inside : sectors_in x ≤ count
+    inside = elim (and_cases (ltb 0 (sectors_in x)) (ltb count (sector_in x + sectors_in x)) a.inside) [
+      | inl z ↦ let l = ltb-false 0 (sectors_in x) z in omega arith
+      | inr z ↦ let l = ltb-false count (sector_in x + sectors_in x) z in omega arith
+    ]
+
+    fewer : (b : Bool) → cond b 0 (sectors_in x) ≤ count
+    fewer true = omega arith
+    fewer false = inside
 
 -- where an entry is left, the reader gives one
 pub given : (r t : Reader) (o : Option Entry) → 0 < r.left → Stepping r t (Ok o) → is_some o ≡ true

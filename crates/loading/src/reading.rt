@@ -43,7 +43,7 @@ pub fn read_trace<S: ImageStore>(heap: Global, bytes: &[u8], base: &S) -> Result
     // No `From` leads from `usize` to `u64`; the cast is proved to lose no bit.
     let count = base.count() as u64;
     while let Some((entry, mark)) = next_entry(&mut reader, &mut used, count)? {
-        push_entry(heap, &mut trace, &entry, mark)?;
+        push_entry(&mut trace, &entry, mark)?;
     }
     Ok(trace)
 }

@@ -4,4 +4,4 @@
 mod contents;
 mod steps;
 
-pub use steps::{Contents, Step, Trace};
+pub use steps::{Source, Step, Trace};

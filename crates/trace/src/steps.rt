@@ -1,27 +1,29 @@
 //! The steps of a recording, one for each entry.
 use mark::Mark;
 
-/// The new contents of the sectors that an entry writes.
-#[derive(Clone, Debug, Drop)]
-pub enum Contents {
-    /// So many sectors of zeros.
-    Zeros(usize),
-    /// These sectors.
-    Data(Vec<[u8; 512]>),
+/// Where the new contents of sectors come from.
+#[derive(Clone, Copy, Debug)]
+pub enum Source {
+    /// Zeros.
+    Zeros,
+    /// The recording's data sectors from this number on.
+    Data { from: u32 },
 }
 
-/// What an entry does: it writes contents to the sectors from `first` on, and says a mark.
-#[derive(Clone, Debug, Drop)]
+/// What an entry does: it writes so many sectors from `first` on, and says a mark.
+#[derive(Clone, Copy, Debug)]
 pub struct Step {
     pub flush: bool,
     pub fua: bool,
     pub first: usize,
-    pub contents: Contents,
+    pub sectors: u32,
+    pub source: Source,
     pub mark: Mark,
 }
 
-/// The steps of a recording.
+/// The steps of a recording, and its data sectors.
 #[derive(Drop)]
 pub struct Trace {
     pub steps: Vec<Step>,
+    pub sectors: Vec<[u8; 512]>,
 }

@@ -1,15 +1,16 @@
 -- One entry read is one step of what is left.
-use Rattle.std.proofs.Common.{◌≡◌, ◌+◌, ◌-◌, Ok, Option, sym, ap, ◌∙◌, subst, arith}
+use Rattle.std.proofs.Common.{◌≡◌, ◌+◌, ◌-◌, length, Ok, Option, sym, ap, ◌∙◌, subst, arith}
 use Rattle.std.proofs.lemmas.Result.{err_from_is_err_and}
 use Rattle.recording.specs.declared.entry.Entry.{Entry}
 use Rattle.recording.specs.declared.entry.Header.{Header}
+use Rattle.recording.specs.Items.{sectors_of, data_of}
 use Rattle.recording.specs.Entries.{data_in}
 use Rattle.recording.specs.Reading.{ahead, next_number, item_seen, Heading, Stepping}
 use Rattle.recording.proofs.Made.{data_sectors}
 use Rattle.meaning.specs.Meanings.{mark_in}
 use Rattle.meaning.specs.Loads.{onwards}
 use Rattle.loading.specs.Loading.{remaining}
-use Rattle.loading.proofs.Entering.{read_end, header_declined, ask_declined, ask_accepted, next_declined, entry_read, mark_read, given, asked_same}
+use Rattle.loading.proofs.Entering.{read_end, header_declined, ask_declined, ask_accepted, next_declined, entry_read, mark_read, given, asked_same, data_few, sectors_few}
 use Rattle.loading.proofs.reading.next_entry.Goals as goal
 
 pub returns-in_err-header : goal.returns-in_err-header
@@ -87,4 +88,6 @@ returns c =
       mark_read x n count m acc ∙ ap mark_in (sym t.2),
       omega arith,
       omega arith,
+      omega (arith, ap (λ i. length (data_of i)) t.2, data_few x),
+      omega (arith, ap sectors_of t.2, sectors_few x n count m acc),
     )
