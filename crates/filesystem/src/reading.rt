@@ -1,5 +1,6 @@
 //! The tree that an image's node words mean.
 ghost use Rattle.std.specs.Prelude.{◌≡◌, ℕ, false, ◌&&◌, [], ◌∷◌, ◌++◌, length, take, is_ok, if◌then◌else◌};
+ghost use Rattle.tree.specs.Lists.{listed};
 ghost use Rattle.tree.specs.Prints.{print_of};
 ghost use Rattle.tree.specs.Rules.{allowed};
 ghost use Rattle.image.specs.Fetched.{sector_of};
@@ -50,8 +51,8 @@ fn lay_word<S: ImageStore>(
     word: u32,
     builder: &mut Builder,
 ) -> Result<(), Misplaced>
-    ensures answer { is_ok result ≡ (word_stands lowest (length (S.sectors image.now)) (length builder.old.nodes.items) word && allowed builder.old.nodes.items (length builder.old.nodes.items) (node_of (S.sectors image.now) word)) }
-    ensures nodes { builder.new.nodes.items ≡ (if is_ok result then builder.old.nodes.items ++ node_of (S.sectors image.now) word ∷ [] else builder.old.nodes.items) }
+    ensures answer { is_ok result ≡ (word_stands lowest (length (S.sectors image.now)) (length (listed builder.old.nodes)) word && allowed (listed builder.old.nodes) (length (listed builder.old.nodes)) (node_of (S.sectors image.now) word)) }
+    ensures nodes { listed builder.new.nodes ≡ (if is_ok result then listed builder.old.nodes ++ node_of (S.sectors image.now) word ∷ [] else listed builder.old.nodes) }
 {
     let said = NodeWord::read(word).ok_or(Misplaced)?;
     if !said.stands(lowest, image.count(), builder.laid()) {

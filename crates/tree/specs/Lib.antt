@@ -1,4 +1,5 @@
 pub mod Rules
+pub mod Lists
 pub mod Agreeing
 pub mod Facts
 pub mod Prints

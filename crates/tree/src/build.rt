@@ -1,5 +1,6 @@
 //! Building trees, and reading their nodes.
 ghost use Rattle.std.specs.Prelude.{◌≡◌, ℕ, ◌<◌, true, ◌≢◌, [], ◌∷◌, ◌++◌, length, is_ok, if◌then◌else◌, Some, MatchOption, slice_index_or};
+ghost use Rattle.tree.specs.Lists.{listed};
 ghost use Rattle.tree.specs.Rules.{is_directory, parent_of, below, placed, allowed, bare};
 ghost use Rattle.tree.specs.declared.node.Node.TheVariants.{Absent};
 
@@ -31,10 +32,10 @@ impl Builder {
     /// Lays the next node, unless it breaks a rule or all 16 are laid; then nothing changes.
     #[tactic(auto, unfolding(crate::specs::Rules::allowed))]
     pub fn lay(&mut self, node: Node) -> Result<(), Misplaced>
-        ensures answer { is_ok result ≡ allowed self.old.nodes.items (length self.old.nodes.items) node }
-        ensures nodes { self.new.nodes.items ≡ (if is_ok result then self.old.nodes.items ++ node ∷ [] else self.old.nodes.items) }
+        ensures answer { is_ok result ≡ allowed (listed self.old.nodes) (length (listed self.old.nodes)) node }
+        ensures nodes { listed self.new.nodes ≡ (if is_ok result then listed self.old.nodes ++ node ∷ [] else listed self.old.nodes) }
     {
-        if self.nodes.is_full() || !is_placed(self.nodes.as_slice(), node) {
+        if self.nodes.len() == NODES || !is_placed(self.nodes.as_slice(), node) {
             return Err(Misplaced);
         }
         self.nodes.push(node);
@@ -43,7 +44,7 @@ impl Builder {
 
     /// The tree, once all 16 nodes are laid.
     pub fn finish(&self) -> Option<Tree>
-        ensures { MatchOption result (length self.now.nodes.items ≢ 16) (λ t. (length self.now.nodes.items ≡ 16) × (t.nodes ≡ self.now.nodes.items)) }
+        ensures { MatchOption result (length (listed self.now.nodes) ≢ 16) (λ t. (length (listed self.now.nodes) ≡ 16) × (t.nodes ≡ listed self.now.nodes)) }
     {
         let nodes = <[Node; NODES]>::try_from(self.nodes.as_slice()).ok()?;
         Some(Tree { nodes })

@@ -1,47 +1,45 @@
 //! A tree in the making, with the rules that its nodes keep so far.
 ghost use Rattle.std.specs.Prelude.{◌≡◌, ℕ, ◌<◌, true, ⊤, [], length, slice_index_or};
+ghost use Rattle.tree.specs.Lists.{listed};
 ghost use Rattle.tree.specs.Rules.{allowed};
 ghost use Rattle.tree.specs.declared.node.Node.TheVariants.{Absent};
 
-use crate::NODES;
-use crate::node::Node;
-use arrayvec::ArrayVec;
+use crate::list::Nodes;
 use std::alloc::AllocError;
 
 /// The first nodes of a tree, in the order of their numbers.
-// Not Copy: an `ArrayVec` is not.
-#[derive(Drop)]
 pub struct Builder {
-    pub(crate) nodes: ArrayVec<Node, NODES>,
-    ghost sound: { ((k : ℕ) → k < length nodes.items → allowed nodes.items k (slice_index_or nodes.items k Absent) ≡ true) },
+    pub(crate) nodes: Nodes,
+    ghost sound: { ((k : ℕ) → k < length (listed nodes) → allowed (listed nodes) k (slice_index_or (listed nodes) k Absent) ≡ true) },
 }
 
-// By hand: of a type with an invariant `Clone` is derived only beside `Copy`.
+impl Copy for Builder {}
+
+// By hand, so that an edit can try what a clone promises.
 impl Clone for Builder {
-    ghost is_clone = { λ b c. c.nodes.items ≡ b.nodes.items };
+    ghost is_clone = { λ b c. c ≡ b };
 
     ghost is_infallible = { λ _. ⊤ };
 
+    /// The same nodes once more.
     fn clone(&self) -> Result<Builder, AllocError> {
-        Ok(Builder {
-            nodes: self.nodes.clone()?,
-        })
+        Ok(*self)
     }
 }
 
 impl Builder {
     /// No node yet.
     pub fn new() -> Builder
-        ensures { result.nodes.items ≡ [] }
+        ensures { listed result.nodes ≡ [] }
     {
         Builder {
-            nodes: ArrayVec::new(),
+            nodes: Nodes::new(),
         }
     }
 
     /// How many nodes are laid: the number of the next.
     pub fn laid(&self) -> usize
-        ensures { result ≡ length self.now.nodes.items }
+        ensures { result ≡ length (listed self.now.nodes) }
     {
         self.nodes.len()
     }

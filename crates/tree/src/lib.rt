@@ -3,6 +3,8 @@
 
 mod build;
 mod builder;
+mod list;
+mod listing;
 mod node;
 mod nodes;
 mod prints;
