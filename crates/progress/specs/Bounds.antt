@@ -1,6 +1,5 @@
 -- Within its bounds no count is ever full, and each move is the law's.
-use Rattle.std.specs.Prelude.{◌≡◌, ℕ, ◌+◌, ◌-◌, ◌*◌, ◌^◌, ◌<◌, ◌≤◌, Bool, true, false, cond, not, ◌&&◌, ◌==◌, refl, Option, Some, None, is_none}
-use Rattle.std.specs.Option.{option_or}
+use Rattle.std.specs.Prelude.{◌≡◌, ℕ, ◌+◌, ◌-◌, ◌*◌, ◌^◌, ◌<◌, ◌≤◌, Bool, true, false, cond, not, ◌&&◌, ◌==◌, refl, Option, Some, is_none}
 use Rattle.std.proofs.Common.{ap, sym, ◌∙◌, arith}
 use Rattle.std.proofs.lemmas.Bool.{ne_eqb}
 use Rattle.image.specs.Sectors.{Image}
@@ -34,13 +33,16 @@ ceiling Ended point = (point + 1) * 1048576
 pub record Bounded (p : Progress) : Type 0 where
   pub sum : p.judged + p.forgone + H.waiting (condition_of p.condition) ≡ p.passed
   pub bad : p.unsafe_judged ≤ p.judged
-  -- every run from `begun` on has it: `begun` does, and each move keeps it
-  pub first : is_none p.first ≡ (p.unsafe_judged == 0)
   pub room : p.passed + ahead p.condition p.states p.rank ≤ ceiling p.condition p.point
   pub here : p.point ≤ p.last
   pub last : p.last ≤ 256
   pub states : p.states ≤ 1048576
   pub rank : p.rank ≤ 1048576
+
+-- A first unsafe state is noted exactly if one was judged: every run from `begun` on has it, since `begun` does, and each
+-- move keeps it. That the moves are the law's asks nothing of it.
+abbrev pub Noted : Progress → Type 0
+Noted p = is_none p.first ≡ (p.unsafe_judged == 0)
 
 exact : (m n : ℕ) → m + n < 2 ^ 64 → plus m n ≡ m + n
 exact m n h = omega arith
@@ -48,12 +50,20 @@ exact m n h = omega arith
 never_none : (n : ℕ) → (plus n 1 == 0) ≡ false
 never_none n = ne_eqb (plus n 1) 0 (λ e. omega arith)
 
-noted_by : (first : Option State) (x : State) → is_none (option_or first (Some x)) ≡ false
-noted_by None x = refl
-noted_by (Some y) x = refl
+pub begun_noted : Noted begun
+begun_noted = refl
+
+-- the other moves leave both as they are
+pub judged_noted : (bad : Bool) (p : Progress) → Noted p → Noted (judged_as bad p)
+judged_noted bad p n = noted bad (p.unsafe_judged == 0) p.first n refl
+  where
+    noted : (bad y : Bool) (first : Option State) → is_none first ≡ y → y ≡ (p.unsafe_judged == 0) → is_none (cond (bad && y) (Some (p.point, p.rank)) first) ≡ (cond bad (plus p.unsafe_judged 1) p.unsafe_judged == 0)
+    noted true true first e q = sym (never_none p.unsafe_judged)
+    noted true false first e q = e ∙ sym (never_none p.unsafe_judged)
+    noted false y first e q = e ∙ q
 
 pub begun_bounded : Bounded begun
-begun_bounded = record { sum = refl; bad = omega arith; first = refl; room = omega arith; here = omega arith; last = omega arith; states = omega arith; rank = omega arith }
+begun_bounded = record { sum = refl; bad = omega arith; room = omega arith; here = omega arith; last = omega arith; states = omega arith; rank = omega arith }
 
 module _ (p : Progress) (b : Bounded p) where
   pub at_sum : (c : Condition) → p.condition ≡ c → p.judged + p.forgone + H.waiting (condition_of c) ≡ p.passed
@@ -63,19 +73,19 @@ module _ (p : Progress) (b : Bounded p) where
   at_room c e = rw e at b.room
 
   pub loaded_bounded : (last : ℕ) → p.condition ≡ Empty → p.point ≤ last → last ≤ 256 → Bounded (loaded last p)
-  loaded_bounded last e l m = record { sum = at_sum Empty e; bad = b.bad; first = b.first; room = at_room Empty e; here = l; last = m; states = b.states; rank = b.rank }
+  loaded_bounded last e l m = record { sum = at_sum Empty e; bad = b.bad; room = at_room Empty e; here = l; last = m; states = b.states; rank = b.rank }
 
   -- the first state of a point is given: of point 0 to a Ready run, of the next point in Judged and Left
   pub first_bounded : (states : ℕ) → p.condition ≡ Ready → p.point ≡ 0 → 0 < states → states ≤ 1048576 → Bounded (entered 0 states p)
   first_bounded states e z some few =
       let s = at_sum Ready e in
       let r = at_room Ready e in
-      record { sum = omega arith; bad = b.bad; first = b.first; room = omega arith; here = omega arith; last = b.last; states = few; rank = omega arith }
+      record { sum = omega arith; bad = b.bad; room = omega arith; here = omega arith; last = b.last; states = few; rank = omega arith }
 
   next_bounded : (states : ℕ) → p.judged + p.forgone ≡ p.passed → p.passed ≤ (p.point + 1) * 1048576 → p.point + 1 ≤ p.last → 0 < states → states ≤ 1048576 → Bounded (entered (p.point + 1) states p)
   next_bounded states s r l some few =
       let k : p.last ≤ 256 = b.last in
-      record { sum = omega arith; bad = b.bad; first = b.first; room = omega arith; here = l; last = b.last; states = few; rank = omega arith }
+      record { sum = omega arith; bad = b.bad; room = omega arith; here = l; last = b.last; states = few; rank = omega arith }
 
   pub judged_bounded : (states : ℕ) → p.condition ≡ Judged → p.point + 1 ≤ p.last → 0 < states → states ≤ 1048576 → Bounded (entered (p.point + 1) states p)
   judged_bounded states e l some few =
@@ -96,10 +106,10 @@ module _ (p : Progress) (b : Bounded p) where
       let h = b.here in
       let k = b.last in
       let m = b.states in
-      record { sum = omega arith; bad = b.bad; first = b.first; room = omega arith; here = h; last = k; states = m; rank = omega arith }
+      record { sum = omega arith; bad = b.bad; room = omega arith; here = h; last = k; states = m; rank = omega arith }
 
   pub ended_bounded : (c : Condition) → p.condition ≡ c → p.judged + p.forgone ≡ p.passed → p.passed ≤ (p.point + 1) * 1048576 → Bounded (ended p)
-  ended_bounded c e s r = record { sum = omega arith; bad = b.bad; first = b.first; room = omega arith; here = b.here; last = b.last; states = b.states; rank = b.rank }
+  ended_bounded c e s r = record { sum = omega arith; bad = b.bad; room = omega arith; here = b.here; last = b.last; states = b.states; rank = b.rank }
 
   pub judged_ended : p.condition ≡ Judged → Bounded (ended p)
   judged_ended e = let s = at_sum Judged e in let r = at_room Judged e in ended_bounded Judged e (omega arith) (omega arith)
@@ -125,15 +135,11 @@ module _ (p : Progress) (b : Bounded p) where
       let r = at_room Waiting e in
       let f = few in
       let u = b.bad in
-      record { sum = omega arith; bad = less bad; first = noted bad; room = r; here = b.here; last = b.last; states = b.states; rank = b.rank }
+      record { sum = omega arith; bad = less bad; room = r; here = b.here; last = b.last; states = b.states; rank = b.rank }
     where
       less : (bad : Bool) → cond bad (plus p.unsafe_judged 1) p.unsafe_judged ≤ plus p.judged 1
       less true = let u = b.bad in omega arith
       less false = let u = b.bad in let s = at_sum Waiting e in let f = few in omega arith
-
-      noted : (bad : Bool) → is_none (cond bad (option_or p.first (Some (p.point, p.rank))) p.first) ≡ (cond bad (plus p.unsafe_judged 1) p.unsafe_judged == 0)
-      noted true = noted_by p.first (p.point, p.rank) ∙ sym (never_none p.unsafe_judged)
-      noted false = b.first
 
   pub waiting_left : p.condition ≡ Waiting → p.rank < p.states → Bounded (left 1 p)
   waiting_left e l =
@@ -142,7 +148,7 @@ module _ (p : Progress) (b : Bounded p) where
       let f = few in
       let m = b.states in
       let k = b.rank in
-      record { sum = omega arith; bad = b.bad; first = b.first; room = omega arith; here = b.here; last = b.last; states = m; rank = k }
+      record { sum = omega arith; bad = b.bad; room = omega arith; here = b.here; last = b.last; states = m; rank = k }
 
   pub judged_left : p.condition ≡ Judged → Bounded (left 0 p)
   judged_left e =
@@ -151,7 +157,7 @@ module _ (p : Progress) (b : Bounded p) where
       let f = few in
       let m = b.states in
       let k = b.rank in
-      record { sum = omega arith; bad = b.bad; first = b.first; room = omega arith; here = b.here; last = b.last; states = m; rank = k }
+      record { sum = omega arith; bad = b.bad; room = omega arith; here = b.here; last = b.last; states = m; rank = k }
 
   -- THE MOVES AS THE LAW SEES THEM.
   module _ (base : Image) (R : Recording) where
@@ -181,25 +187,21 @@ module _ (p : Progress) (b : Bounded p) where
         let u = b.bad in
         let e : plus p.judged 1 ≡ p.judged + 1 = omega arith in
         let d = bad_count (o == 0) in
-        let g = first_is (o == 0) p.first (p.unsafe_judged == 0) b.first in
+        let g = first_is (o == 0) (p.unsafe_judged == 0) in
         let F : ℕ → ℕ → State → View = λ j n x. record { base = base; recording = R; condition = H.Judged; standing = (p.point, p.rank); judged = j; unsafe = n; forgone = p.forgone; passed = p.passed; first = x } in
         let n : ℕ = cond (not (o == 0)) (plus p.unsafe_judged 1) p.unsafe_judged in
-        let x : State = first_of (cond (not (o == 0)) (option_or p.first (Some (p.point, p.rank))) p.first) in
+        let x : State = first_of (cond (not (o == 0) && p.unsafe_judged == 0) (Some (p.point, p.rank)) p.first) in
         ap (λ j. F j n x) e ∙ ap (λ m. F (p.judged + 1) m x) d ∙ ap (F (p.judged + 1) (p.unsafe_judged + cond (o == 0) 0 1)) g
       where
         bad_count : (z : Bool) → cond (not z) (plus p.unsafe_judged 1) p.unsafe_judged ≡ p.unsafe_judged + cond z 0 1
         bad_count true = omega arith
         bad_count false = let f = few in let s = b.sum in let u = b.bad in omega arith
 
-        first_is : (z : Bool) (first : Option State) (y : Bool) → is_none first ≡ y → first_of (cond (not z) (option_or first (Some (p.point, p.rank))) first) ≡ cond (y && not z) (p.point, p.rank) (first_of first)
-        first_is true None true e = refl
-        first_is true None false e = refl
-        first_is true (Some x) true e = refl
-        first_is true (Some x) false e = refl
-        first_is false None true e = refl
-        first_is false None false e = cc
-        first_is false (Some x) true e = cc
-        first_is false (Some x) false e = refl
+        first_is : (z y : Bool) → first_of (cond (not z && y) (Some (p.point, p.rank)) p.first) ≡ cond (y && not z) (p.point, p.rank) (first_of p.first)
+        first_is true true = refl
+        first_is true false = refl
+        first_is false true = refl
+        first_is false false = refl
 
     pub forgo_view : (w : ℕ) → w ≡ H.waiting (condition_of p.condition) → w ≤ 1 → p.passed + (p.states - (p.rank + 1)) ≤ 269484032 → count R p.point ≡ p.states → view_of base R (left w p) ≡ on_forgo (view_of base R p)
     forgo_view w e l room n =

@@ -1,6 +1,5 @@
 -- What each accepted call makes of a run's progress.
-use Rattle.std.specs.Prelude.{ℕ, ◌+◌, ◌-◌, ◌^◌, min, Bool, cond, Some, None}
-use Rattle.std.specs.Option.{option_or}
+use Rattle.std.specs.Prelude.{ℕ, ◌+◌, ◌-◌, ◌^◌, min, Bool, cond, ◌&&◌, ◌==◌, Some, None}
 use Rattle.progress.specs.declared.condition.Condition.TheVariants.{Empty, Ready, Waiting, Judged, Left, Ended}
 use Rattle.progress.specs.declared.condition.Progress.{Progress}
 
@@ -35,7 +34,7 @@ judged_as bad p = record {
   unsafe_judged = cond bad (plus p.unsafe_judged 1) p.unsafe_judged;
   forgone = p.forgone;
   passed = p.passed;
-  first = cond bad (option_or p.first (Some (p.point, p.rank))) p.first;
+  first = cond (bad && p.unsafe_judged == 0) (Some (p.point, p.rank)) p.first;
 }
 
 -- how many states the point has after the standing one

@@ -54,7 +54,9 @@ impl Progress {
         self.condition = Condition::Judged;
         self.judged = self.judged.saturating_add(1);
         if is_unsafe {
-            self.first = self.first.or(Some((self.point, self.rank)));
+            if self.unsafe_judged == 0 {
+                self.first = Some((self.point, self.rank));
+            }
             self.unsafe_judged = self.unsafe_judged.saturating_add(1);
         }
     }

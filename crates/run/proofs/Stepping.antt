@@ -17,7 +17,7 @@ use Rattle.progress.specs.declared.condition.Condition.TheVariants.{Empty, Ready
 use Rattle.progress.specs.declared.condition.Progress.{Progress}
 use Rattle.progress.specs.Moves.{plus, entered, stepped, ended, judged_as, left}
 use Rattle.progress.specs.Views.{condition_of, view_of}
-use Rattle.progress.specs.Bounds.{Bounded, first_bounded, judged_bounded, left_bounded, stepped_bounded, judged_ended, left_ended, judged_as_bounded, waiting_left, judged_left, few, enter_view, step_view, judge_view, forgo_view, at_room}
+use Rattle.progress.specs.Bounds.{Bounded, first_bounded, judged_bounded, left_bounded, stepped_bounded, judged_ended, left_ended, judged_as_bounded, judged_noted, waiting_left, judged_left, few, enter_view, step_view, judge_view, forgo_view, at_room}
 use Rattle.meaning.specs.Judgements.{judgement}
 use Rattle.judging.specs.Tables.{values_in}
 use Rattle.judging.specs.Same.{same_values}
@@ -102,7 +102,7 @@ module _ (least : ℕ) (outcome : Image → Outcome) (base : Image) where
     ends q E l =
         let L = entering_loaded q E in
         let k : R.last < q = let e = L.last in omega arith in (
-          record { bounded = ended_bounded q E l; stage = L },
+          record { bounded = ended_bounded q E l; noted = V.noted; stage = L },
           step_by s (view_of base R p) (view_of base R (ended p)) (view_by outcome base space p) (view_by outcome base space (ended p)) H.ended (seen_entering q E) refl
               (entering_accepted q E, entering_next q E ∙ ap (λ b. cond b (Some (q, 0)) None) (lt-leb q R.last k), refl),
         )
@@ -115,7 +115,7 @@ module _ (least : ℕ) (outcome : Image → Outcome) (base : Image) where
         let k : q ≤ R.last = let e = L.last in omega arith in
         let same : meaning_in outcome base space' ≡ R = ap (λ x. meaning_by outcome base x.nodes (effects_of space'.trace) (marks_of space'.trace)) u ∙ ap (λ x. meaning_by outcome base space.tree.nodes (effects_of x) (marks_of x)) t in
         let L' : Loaded outcome base space' p.last = loaded_same space' p.last L t u in (
-          record { bounded = entered_bounded q n E l D.some D.few; stage = (L', D.at) },
+          record { bounded = entered_bounded q n E l D.some D.few; noted = V.noted; stage = (L', D.at) },
           step_by s (view_of base R p) (view_of base R (entered q n p)) (view_by outcome base space p) (view_by outcome base space' (entered q n p)) (H.gave (q, 0)) (seen_entering q E) (ap (λ x. view_of base x (entered q n p)) same)
               (entering_accepted q E, entering_next q E ∙ ap (λ b. cond b (Some (q, 0)) None) (le-leb q R.last k), enter_view p V.bounded base R q n),
         )
@@ -140,7 +140,7 @@ module _ (least : ℕ) (outcome : Image → Outcome) (base : Image) where
         let k = b.rank in
         let z : plus p.rank 1 ≡ p.rank + 1 = omega arith in
         let P : ℕ → Type 0 = λ x. At base (with_choice space choice) p.point x p.states state' in (
-          record { bounded = stepped_bounded p b e (let c = A.count in omega arith); stage = (record { fit = L.fit; tree = L.tree; last = L.last }, subst P (sym z) (record { stands = S; values = A.values; count = A.count })) },
+          record { bounded = stepped_bounded p b e (let c = A.count in omega arith); noted = V.noted; stage = (record { fit = L.fit; tree = L.tree; last = L.last }, subst P (sym z) (record { stands = S; values = A.values; count = A.count })) },
           step_by s (view_of base R p) (view_of base R (stepped p)) (view_by outcome base space p) (view_by outcome base (with_choice space choice) (stepped p)) (H.gave (p.point, p.rank + 1)) (seen space p Judged e refl) refl (
             ap (λ x. refusal s (condition_of x) H.advance) e,
             ap (λ x. next R (condition_of x) (p.point, p.rank)) e ∙ ap (λ y. cond y (Some (p.point, p.rank + 1)) (enter R.last (p.point + 1))) (lt-ltb (p.rank + 1) (count R p.point) l),
@@ -155,7 +155,7 @@ module _ (least : ℕ) (outcome : Image → Outcome) (base : Image) where
         let L = (from Waiting e).0 in
         let A = (from Waiting e).1 in
         let b = V.bounded in (
-          record { bounded = judged_as_bounded p b (not (eqb o 0)) e; stage = (L, A) },
+          record { bounded = judged_as_bounded p b (not (eqb o 0)) e; noted = judged_noted (not (eqb o 0)) p V.noted; stage = (L, A) },
           step_by s (view_of base R p) (view_of base R (judged_as (not (eqb o 0)) p)) (view_by outcome base space p) (view_by outcome base space (judged_as (not (eqb o 0)) p)) (H.found o n) (seen space p Waiting e refl) refl (
             ap (λ x. refusal s (condition_of x) H.judge) e,
             j ∙ same_values (values_in space.values) (λ m. R.values p.point m) A.values (outcome state) ∙ ap (λ x. R.judgement p.point x) A.stands.shows,
@@ -181,7 +181,7 @@ module _ (least : ℕ) (outcome : Image → Outcome) (base : Image) where
             let g = b.last in
             let z : w ≡ H.waiting (condition_of p.condition) = h ∙ sym (ap (λ x. H.waiting (condition_of x)) e) in
             let P : ℕ → Type 0 = λ x. Bounded (left x p) in (
-              record { bounded = subst P (sym h) (waiting_left p b e (let k = A.stands.rank in let c = A.count in omega arith)); stage = L },
+              record { bounded = subst P (sym h) (waiting_left p b e (let k = A.stands.rank in let c = A.count in omega arith)); noted = V.noted; stage = L },
               step_by s (view_of base R p) (view_of base R (left w p)) (view_by outcome base space p) (view_by outcome base space (left w p)) H.forwent (seen space p Waiting e refl) refl
                   (ap (λ x. refusal s (condition_of x) H.forgo) e, forgo_view p b base R w z (omega arith) (omega arith) (sym A.count)),
             )
@@ -194,7 +194,7 @@ module _ (least : ℕ) (outcome : Image → Outcome) (base : Image) where
             let g = b.last in
             let z : w ≡ H.waiting (condition_of p.condition) = h ∙ sym (ap (λ x. H.waiting (condition_of x)) e) in
             let P : ℕ → Type 0 = λ x. Bounded (left x p) in (
-              record { bounded = subst P (sym h) (judged_left p b e); stage = L },
+              record { bounded = subst P (sym h) (judged_left p b e); noted = V.noted; stage = L },
               step_by s (view_of base R p) (view_of base R (left w p)) (view_by outcome base space p) (view_by outcome base space (left w p)) H.forwent (seen space p Judged e refl) refl
                   (ap (λ x. refusal s (condition_of x) H.forgo) e, forgo_view p b base R w z (omega arith) (omega arith) (sym A.count)),
             )

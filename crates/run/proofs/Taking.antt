@@ -70,6 +70,6 @@ module _ (least : ℕ) (outcome : Image → Outcome) (base state : Image) (space
       let m : n ≡ length (effects_of t) = z ∙ length_effects t in
       let loads : load_of least outcome base bytes ≡ takes (meaning_in outcome base (with_recording space t tree)) = enough l (a_tree tree.nodes) h ∙ T.0 outcome tree.nodes in
       let F : Recording → View = λ R. record { base = base; recording = R; condition = H.Ready; standing = (p.point, p.rank); judged = p.judged; unsafe = p.unsafe_judged; forgone = p.forgone; passed = p.passed; first = first_of p.first } in (
-        record { bounded = loaded_bounded p V.bounded n e (omega arith) (omega arith); stage = (q, record { fit = T.1; tree = h; last = m }) },
+        record { bounded = loaded_bounded p V.bounded n e (omega arith) (omega arith); noted = V.noted; stage = (q, record { fit = T.1; tree = h; last = m }) },
         (ap (λ x. refusal s (condition_of x) (H.load bytes)) e ∙ ap of_recording loads, ap F (sym (ap meaning loads))),
       )

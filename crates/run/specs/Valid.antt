@@ -12,7 +12,7 @@ use Rattle.progress.specs.declared.condition.Condition.{Condition}
 use Rattle.progress.specs.declared.condition.Condition.TheVariants.{Empty, Ready, Waiting, Judged, Left, Ended}
 use Rattle.progress.specs.declared.condition.Progress.{Progress}
 use Rattle.progress.specs.Views.{view_of}
-use Rattle.progress.specs.Bounds.{Bounded}
+use Rattle.progress.specs.Bounds.{Bounded, Noted}
 use Rattle.taking.specs.Taking.{Fit}
 use Rattle.run.specs.declared.space.Space.{Space}
 use Rattle.run.specs.Standing.{At}
@@ -47,6 +47,7 @@ Stage Ended outcome base state space p = Loaded outcome base space p.last
 
 pub record Valid (outcome : Image → Outcome) (base state : Image) (space : Space) (p : Progress) : Type 0 where
   pub bounded : Bounded p
+  pub noted : Noted p
   pub stage : Stage p.condition outcome base state space p
 
 abbrev pub view_by : (Image → Outcome) → Image → Space → Progress → View
