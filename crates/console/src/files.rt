@@ -37,10 +37,11 @@ impl Program<'_> {
     /// and the name is refused. A link to an input is replaced, and the input stays as it is.
     pub fn write_beside(&self, inputs: &[Input], out: &str, bytes: &[u8]) -> Result<(), Failed> {
         let rt = self.rt;
-        if inputs.iter().any(|input| input.may_be(rt, out)) {
+        let held = self.held(out);
+        if inputs.iter().any(|input| input.is_twin(&held)) {
             let aside = self.put_aside(out)?;
             for input in inputs {
-                if input.is_gone(rt) {
+                if input.is_twin(&held) && input.is_put_aside(rt, aside.as_str()) {
                     fs::rename(rt, aside.as_str(), out)?;
                     let path = input.path;
                     return Err(self.refused(format_args!(
@@ -51,6 +52,15 @@ impl Program<'_> {
             fs::remove_file(rt, aside.as_str())?;
         }
         self.write(out, bytes)
+    }
+
+    /// The bytes in `out`, where that names a plain file: read once, for all inputs.
+    fn held(&self, out: &str) -> Option<Vec<u8>> {
+        if fs::metadata(self.rt, out).is_ok_and(|found| found.is_file()) {
+            fs::read(self.rt, out).ok()
+        } else {
+            None
+        }
     }
 
     /// Gives the file `out` another name for a moment, and answers that name.
@@ -68,18 +78,23 @@ impl Program<'_> {
 }
 
 impl Input<'_> {
-    /// Whether the input's name leads nowhere any more, or to a file with another name for a moment: so
-    /// does that of an open file, as `/dev/stdin`.
-    fn is_gone(&self, rt: &HostRuntime) -> bool {
-        match rt.canonicalize(rt.alloc(), self.path) {
-            Ok(found) => found.as_str().ends_with(ASIDE),
-            Err(_) => !fs::exists(rt, self.path).unwrap_or(false),
-        }
+    /// Whether the input has just these bytes: no other can be the file that holds them.
+    fn is_twin(&self, held: &Option<Vec<u8>>) -> bool {
+        held.as_ref()
+            .is_some_and(|held| held.as_slice() == self.bytes.as_slice())
     }
 
-    /// Whether `out` names a plain file with just these bytes.
-    fn may_be(&self, rt: &HostRuntime, out: &str) -> bool {
-        fs::metadata(rt, out).is_ok_and(|found| found.is_file())
-            && fs::read(rt, out).is_ok_and(|held| held.as_slice() == self.bytes.as_slice())
+    /// Whether the input is the file that has the name `aside` for a moment: its own name leads nowhere any more, or,
+    /// as that of an open file such as `/dev/stdin`, to that file. A link with the name `aside` is no input.
+    fn is_put_aside(&self, rt: &HostRuntime, aside: &str) -> bool {
+        match rt.canonicalize(rt.alloc(), self.path) {
+            Ok(found) => {
+                !fs::symlink_metadata(rt, aside).is_ok_and(|name| name.is_symlink())
+                    && rt
+                        .canonicalize(rt.alloc(), aside)
+                        .is_ok_and(|place| place.as_str() == found.as_str())
+            }
+            Err(_) => !fs::exists(rt, self.path).unwrap_or(false),
+        }
     }
 }

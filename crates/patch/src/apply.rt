@@ -14,13 +14,18 @@ use thiserror::Error;
 #[error("the entry touches a sector outside the image")]
 pub struct Outside;
 
-/// What an entry writes to its `i`-th sector.
-fn new_sector(item: &Entry, i: usize) -> [u8; SECTOR]
+static ZEROS: [u8; SECTOR] = [0; SECTOR];
+
+/// What an entry writes to its `i`-th sector: lent, since a copy of it costs as much again.
+fn new_sector<'a>(item: &Entry<'a>, i: usize) -> &'a [u8; SECTOR]
     requires { i < sectors_of (item_seen item.now) }
-    ensures { result ≡ nth (item_seen item.now) i }
+    ensures { result.now ≡ nth (item_seen item.now) i }
 {
     let (sectors, _) = item.data().as_chunks::<SECTOR>();
-    sectors.get(i).copied().unwrap_or([0; SECTOR])
+    match sectors.get(i) {
+        Some(sector) => sector,
+        None => &ZEROS,
+    }
 }
 
 /// Gives each sector that the entry writes its new content, and changes no other. An entry that
@@ -38,7 +43,7 @@ pub fn apply_entry<S: ImageStore>(store: &mut S, item: &Entry) -> Result<(), Out
     let first = extent.first as usize;
     // By number, since one loop writes the bytes of a write and the zeros of a discard.
     for i in 0..extent.sectors as usize {
-        store.write(first + i, &new_sector(item, i)).unwrap();
+        store.write(first + i, new_sector(item, i)).unwrap();
     }
     Ok(())
 }
