@@ -5,8 +5,17 @@ use Rattle.tree.specs.declared.node.Node.{Node}
 use Rattle.tree.specs.declared.node.Node.TheVariants.{Absent, Directory, File}
 use Rattle.mark.specs.declared.mark.Mark.{Mark}
 use Rattle.mark.specs.declared.mark.Mark.TheVariants.{File as file, Directory as directory, Absent as absent, Sync as sync, Comment as comment}
+use Rattle.recording.specs.Items.{Item, write, discard, flush, mark}
+use Rattle.mark.specs.Marks.{Spells}
 use Rattle.crash.specs.Lists.{◌∈◌}
 use Rattle.crash.specs.Walk.{put, settle}
+
+-- the mark of an entry
+abbrev pub Marked : Item → Mark → Type 0
+Marked (write sector fl force meta content) m = m ≡ comment
+Marked (discard sector sectors fl meta) m = m ≡ comment
+Marked (flush sector force dis meta) m = m ≡ comment
+Marked (mark text) m = Spells m text
 
 -- the mark puts a value on node n: a file, a directory, or that it is absent
 abbrev pub is_put : Mark → ℕ → Bool

@@ -1,4 +1,4 @@
-use Rattle.std.proofs.Common.{◌≡◌, ℕ, ◌<◌, refl, inl, inr, arith}
+use Rattle.std.proofs.Common.{◌≡◌, refl, inl, inr, arith}
 use Rattle.tree.specs.declared.node.Node.TheVariants.{Absent, Directory}
 use Rattle.crash.specs.Nodes.{node_values}
 use Rattle.crash.proofs.node_examples_stand.Goals as goal
